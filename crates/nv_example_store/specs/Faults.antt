@@ -9,7 +9,7 @@ use Rattle.nv_example_store.specs.Values.{Backup, Entry, entries_at, has_value, 
 abbrev pub IsKeyFault : (Fault → Type 0) → List ℕ → Fault → Type 0
 IsKeyFault Of key why = ((why ≡ fault.BadName) × (may_be_key key ≡ false)) ⊎ ((may_be_key key ≡ true) × Of why)
 
--- why a put is refused: the value is too long for a file, or files are short of something
+-- the faults by which a put of a key is refused. That something was short is not said.
 abbrev pub IsPutFault : Fault → Type 0
 IsPutFault fault.WriteTooBig = Unit {0}
 IsPutFault fault.FileTooBig = Unit {0}
@@ -19,7 +19,7 @@ IsPutFault fault.CommitLimit = Unit {0}
 IsPutFault (fault.OutOfMemory memory) = Unit {0}
 IsPutFault other = ⊥
 
--- why a removal is refused: `Missing` where the key has no value, or files are short of something
+-- the faults by which a removal of a key is refused: `Missing` where it has no value. That something was short is not said.
 abbrev pub IsRemoveFault : List ℕ → List Entry → Fault → Type 0
 IsRemoveFault key entries fault.Missing = value_of key entries ≡ None
 IsRemoveFault key entries fault.NoSpace = has_value key entries ≡ true
@@ -33,13 +33,13 @@ IsBackupFault snapshot backups fault.NoSnapshot = entries_at snapshot backups �
 IsBackupFault snapshot backups (fault.OutOfMemory memory) = Unit {0}
 IsBackupFault snapshot backups other = ⊥
 
--- why a backup is refused: as many live as may, or the epoch is the last
+-- the faults by which a backup is refused. Their causes are not said.
 abbrev pub IsSnapFault : Fault → Type 0
 IsSnapFault fault.TooManySnapshots = Unit {0}
 IsSnapFault fault.EpochLimit = Unit {0}
 IsSnapFault other = ⊥
 
--- why a tidying is refused: there are no blocks for the log of the root as it will be, or want of memory
+-- the faults by which a tidying is refused. Their causes are not said.
 abbrev pub IsTidyFault : Fault → Type 0
 IsTidyFault fault.NoSpace = Unit {0}
 IsTidyFault (fault.OutOfMemory memory) = Unit {0}

@@ -37,6 +37,7 @@ impl Model for Store {
 impl Store {
     /// An empty store without backups. The only error is `OutOfMemory`.
     pub fn new(alloc: Global, geometry: Geometry) -> Result<Store, Fault>
+        // A world with the root alone has no room for a file.
         requires { 2 ≤ geometry.numbers.inodes }
         // A new store has no entry and no backup.
         ensures ok { IfOk result (λ store. store ≡ record { entries = []; backups = [] }) }
@@ -53,7 +54,7 @@ impl Store {
         ensures ok { OnOk result (self.new ≡ put_in key.now value.now self.old) }
         // Only a key gets a value.
         ensures key { OnOk result (may_be_key key.now ≡ true) }
-        // A put is refused where the bytes are no key, the value is too long for a file, or files are short of something.
+        // A put is refused `BadName` where the bytes are no key, and a key by one of six faults alone.
         ensures err { IfErr result (IsKeyFault IsPutFault key.now) }
         // A put that is refused leaves the store as it was.
         ensures same { KeepsOnErr result self.old self.new }
@@ -70,7 +71,7 @@ impl Store {
         ensures ok { OnOk result (self.new ≡ removed_in key.now self.old) }
         // Only a key that has a value is removed.
         ensures key { OnOk result (has_value key.now self.old.entries ≡ true) }
-        // A removal is refused where the bytes are no key, the key has no value, or files are short of something.
+        // A removal is refused `BadName` where the bytes are no key, `Missing` where the key has no value, or by three other faults.
         ensures err { IfErr result (IsKeyFault (IsRemoveFault key.now self.old.entries) key.now) }
         // A removal that is refused leaves the store as it was.
         ensures same { KeepsOnErr result self.old self.new }
@@ -114,7 +115,7 @@ impl Store {
     pub fn backup(&mut self) -> Result<Epoch, Fault>
         // The newest backup has the entries of now, and a number that no other backup has.
         ensures ok { IfOk result (λ backup. IsBackedUp backup self.old self.new) }
-        // It is refused where as many backups live as may, or at the last epoch.
+        // It is refused by `TooManySnapshots` or `EpochLimit` alone.
         ensures err { IfErr result IsSnapFault }
         // A backup that is refused leaves the store as it was.
         ensures same { KeepsOnErr result self.old self.new }
@@ -155,7 +156,7 @@ impl Store {
     pub fn tidy(&mut self) -> Result<(), Fault>
         // The store stays, also where it is refused.
         ensures same { self.new ≡ self.old }
-        // It is refused where there are too few blocks for a new log of the root, or for want of memory.
+        // It is refused by `NoSpace` or `OutOfMemory` alone.
         ensures err { IfErr result IsTidyFault }
     {
         steps::tidy(&mut self.files)

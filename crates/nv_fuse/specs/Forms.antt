@@ -13,8 +13,11 @@ pub data Tail : Type 0 where
 
 -- an operation's number, the bytes that its fields take, and what stands behind them
 pub record Form : Type 0 where
+  -- the number of the operation
   pub number : ℕ
+  -- how many bytes its fields take
   pub fields : ℕ
+  -- what stands behind them
   pub tail : Tail
 
 abbrev pub form : ℕ → ℕ → Tail → Form

@@ -9,16 +9,24 @@ use Rattle.nv_fuse.specs.declared.operation.Operation.TheVariants.{Init, Destroy
 -- the 40 bytes that a request begins with: its length at 0 (4 bytes), and these fields. The last four bytes are not
 -- read.
 pub record IsHeader (bytes : List ℕ) (header : Header) : Type 0 where
+  -- the number of the operation
   pub operation : header.operation ≡ field 4 4 bytes
+  -- the number of the request
   pub unique : header.unique ≡ field 8 8 bytes
+  -- the node that it names
   pub node : header.node ≡ field 16 8 bytes
+  -- who asks
   pub user : header.user ≡ field 24 4 bytes
+  -- the group of that user
   pub group : header.group ≡ field 28 4 bytes
+  -- the process that asks
   pub process : header.process ≡ field 32 4 bytes
 
 -- bytes that are a request: a header, and as many bytes as it tells
 pub record IsRequest (bytes : List ℕ) : Type 0 where
+  -- there is a header
   pub header : 40 ≤ length bytes
+  -- it tells the length
   pub whole : field 0 4 bytes ≡ length bytes
 
 -- the operation's number, and the fields of its body

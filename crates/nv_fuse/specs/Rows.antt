@@ -4,8 +4,11 @@ use Rattle.byteorder.specs.Endian.{little_bytes}
 
 -- a number of a width in bytes, and the place of its first byte
 pub record Row : Type 0 where
+  -- where its first byte stands
   pub place : ℕ
+  -- how many bytes it has
   pub width : ℕ
+  -- the number
   pub value : ℕ
 
 abbrev pub row : ℕ → ℕ → ℕ → Row

@@ -30,6 +30,9 @@ handle_of node =
 
 -- nodes and handles stand one to one
 pub record AreOneToOne : Type 0 where
+  -- the number of a handle leads back to it
   pub back : (h : Handle) (node : ℕ) → node_of h ≡ Some node → handle_of node ≡ Some h
+  -- a handle that a number leads to has this number
   pub forth : (h : Handle) (node : ℕ) → node < 2 ^ 64 → handle_of node ≡ Some h → node_of h ≡ Some node
+  -- a number has 64 bits
   pub range : (h : Handle) (node : ℕ) → node_of h ≡ Some node → node < 2 ^ 64

@@ -40,7 +40,9 @@ named is_named b = record b { nameless = not is_named }
 
 -- what stands beside the nodes: by slot, with the times of a node of which nothing was told
 pub record AllBeside : Type 0 where
+  -- when the mount began
   pub begun : Time
+  -- what was set, by slot
   pub rows : List Beside
 
 -- what a node has of which nothing was told

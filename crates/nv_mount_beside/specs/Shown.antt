@@ -16,7 +16,7 @@ abbrev pub attributes_told : ℕ → Shape → Kept → Bool → Attributes
 attributes_told node shape kept nameless =
     if nameless then record (attributes_of node shape kept) { links = 0 } else attributes_of node shape kept
 
--- the attributes of a node, where its size is below 2 ^ 40 and one more
+-- the attributes of a node, where its size is at most 2 ^ 40
 abbrev pub attributes_if : ℕ → Shape → Kept → Bool → Result Attributes Refusal
 attributes_if node shape kept nameless =
     if nat_lt 1099511627776 shape.size then refused errno.InputOutput else Ok (attributes_told node shape kept nameless)
