@@ -1,3 +1,4 @@
+pub mod Counted
 pub mod Nearer
 pub mod Visible
 pub mod Windows

@@ -150,5 +150,12 @@ fn past_last_end(bytes: &[u8]) -> usize
 fn count_ends(bytes: &[u8]) -> usize
     ensures { result ≡ ends_in bytes.now }
 {
-    bytes.iter().filter(|byte| **byte == LINE_END).count()
+    let mut count = 0;
+    let mut rest = bytes;
+    while let Some(end) = memchr(LINE_END, rest) {
+        let (_line, behind) = rest.split_at(end + 1);
+        rest = behind;
+        count += 1;
+    }
+    count
 }
