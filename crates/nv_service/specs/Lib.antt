@@ -7,6 +7,7 @@ pub mod Committing
 pub mod Ending
 pub mod Fresh
 pub mod Judging
+pub mod Left
 pub mod Locked
 pub mod Names
 pub mod Opened

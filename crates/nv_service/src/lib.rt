@@ -7,6 +7,7 @@
 
 mod asking;
 mod book;
+mod callers;
 mod calls;
 mod cell;
 mod cell_list;
@@ -40,6 +41,7 @@ mod seats;
 mod seen;
 mod sends;
 mod service;
+mod serving;
 mod session;
 mod snapshots;
 mod taking;
@@ -48,10 +50,12 @@ mod unlocked_parts;
 mod visits;
 
 pub use book::LockedBook;
+pub use callers::Calls;
 pub use cell::LockedCell;
 pub use list::LockedList;
 pub use names::{Blocks, Commits, Ledgers};
 pub use nv_calls::{Receipt, Source, SourceFault, View};
 pub use seen::Seen;
 pub use service::Service;
+pub use serving::{Acts, serve};
 pub use session::Session;

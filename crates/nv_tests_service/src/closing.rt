@@ -148,7 +148,7 @@ fn idle_seats_change_nothing(rt: HostRuntime) {
 }
 
 /// A world in which an actor has begun a call.
-fn busy_world(rt: &impl Abort, alloc: Global) -> World {
+pub fn busy_world(rt: &impl Abort, alloc: Global) -> World {
     let mut world = prepared(rt, alloc, SMALL, &[Create(ROOT, b"a")]);
     let started = world.step(Event::Start(1, call(rt, alloc, &Write(ONE, 0, b"z"))));
     holds_for(rt, &"started", matches!(started, Reply::Started));

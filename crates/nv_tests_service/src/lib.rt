@@ -36,6 +36,8 @@ mod runner;
 #[cfg(test)]
 mod seats;
 #[cfg(test)]
+mod served;
+#[cfg(test)]
 mod shows;
 #[cfg(test)]
 mod threads;
