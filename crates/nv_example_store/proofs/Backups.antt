@@ -16,8 +16,6 @@ use Rattle.nv_calls.specs.Refusals.{bytes_of, is_directory, kind_of}
 use Rattle.nv_calls.specs.declared.answer.Answer.TheVariants as answers
 use Rattle.nv_calls.specs.declared.call.Call.TheVariants as call
 use Rattle.nv_calls.specs.declared.snapshot_or_cleaner_call.SnapshotOrCleanerCall.TheVariants as on
-use Rattle.nv_cell.specs.Readers.{has_entry}
-use Rattle.nv_clean.specs.declared.cleaned.Cleaned.{Cleaned}
 use Rattle.nv_core.specs.Worlds.{WorldState}
 use Rattle.nv_entry.specs.Index.{bound_to}
 use Rattle.nv_entry.specs.Tree.{names_of_node, names_under, node_and_below, path_below, root, tree_from}
@@ -25,27 +23,26 @@ use Rattle.nv_entry.specs.declared.names.BoundName.{BoundName}
 use Rattle.nv_entry.specs.declared.node.NodeCopy.{NodeCopy}
 use Rattle.nv_entry.specs.declared.tree.TreeNode.{TreeNode}
 use Rattle.nv_machine.specs.Directories.{AreTree}
-use Rattle.nv_machine.specs.PlainRun.{Copy, Plain, is_of}
+use Rattle.nv_machine.specs.PlainRun.{Copy, is_of}
 use Rattle.nv_serial.specs.OneCall.{serial_call}
-use Rattle.nv_serial.specs.Serial.{Serial, copies_now, log_in, refused}
+use Rattle.nv_serial.specs.Serial.{Serial, copies_now, refused}
 use Rattle.nv_serial.specs.Snapshots.{snapshot_tree_told}
-use Rattle.nv_effects.specs.Causes.{IsCleanerCause, IsSnapCause}
-use Rattle.nv_effects.specs.Snapshots.{HasDropped, HasSnapped, KeepsPlain, new_copy}
+use Rattle.nv_effects.specs.Causes.{IsSnapCause}
+use Rattle.nv_effects.specs.Snapshots.{HasDropped, HasSnapped, new_copy}
 use Rattle.nv_effects.specs.Sound.{IsSoundWorld}
 use Rattle.nv_effects.proofs.Causes.{refused_cause_on}
-use Rattle.nv_effects.proofs.Drained.{calls_drop, calls_keep_plain, calls_snap}
+use Rattle.nv_effects.proofs.Drained.{calls_drop, calls_snap}
 use Rattle.nv_effects.proofs.LivingSnapshots.{copy_of, copy_shown, show_tells}
 use Rattle.nv_files.specs.Stands.{Leads}
 use Rattle.nv_files.specs.Told.{IsTold, IsToldOrStarved}
 use Rattle.nv_files.proofs.Standing.{files_sound}
-use Rattle.nv_example_store.specs.Faults.{IsBackupFault, IsSnapFault, IsTidyFault}
+use Rattle.nv_example_store.specs.Faults.{IsBackupFault, IsForgetCause}
 use Rattle.nv_example_store.specs.Held.{BecomesBy, FindsBy, bytes_at}
 use Rattle.nv_example_store.specs.Keys.{scratch}
 use Rattle.nv_example_store.specs.Stored.{HoldFiles, HoldsStore, Steps, backup_of, entries_in, value_in}
 use Rattle.nv_example_store.specs.Values.{Backup, IsBackedUp, IsBackupValue, StoreValue, backed_up, entries_at, forgotten_in, value_of, without_backup}
 use Rattle.nv_example_store.proofs.FoundValues.{value_found}
 use Rattle.nv_example_store.proofs.Lists.{filter_map_swap}
-use Rattle.nv_example_store.proofs.Puts.{root_of}
 
 -- one more copy
 all_more : (P : Copy → Type 0) (copies : List Copy) (copy : Copy) → AllByRecursion P copies → P copy
@@ -89,16 +86,10 @@ none_newer snapshot (c ∷ copies) before = go (is_of snapshot c) refl (none_new
   go true e rest = absurd (earlier (eqb-true c.snapshot snapshot e))
   go false e rest = rw e rest
 
--- why a making is refused
-snap_fault : (s : Serial) (why : Fault) → IsSnapCause s why → IsSnapFault why
-snap_fault s fault.EpochLimit cause = tt
-snap_fault s fault.TooManySnapshots cause = tt
-snap_fault s other cause = absurd cause
-
 -- THE NEWEST BACKUP has the entries of now
 pub backup_step : (result : Result ℕ Fault) (old new : WorldState)
     → Leads (IsTold (call.SnapshotOrCleaner on.Snap) result (λ snapshot. answers.Snapshot snapshot)) old new
-    → Steps (BecomesBy IsBackedUp (λ store why. IsSnapFault why) result) old new
+    → Steps (BecomesBy IsBackedUp IsSnapCause result) old new
 backup_step (Ok snapshot) old new leads = λ s stands holds.
     let known = leads s stands in
     let t : Serial = known.0 in
@@ -119,7 +110,7 @@ backup_step (Err why) old new leads = λ s stands holds.
       known.0,
       (
         ap (λ (u : Serial). value_in u.plain) known.1.1,
-        snap_fault s why (refused_cause_on s s 0 on.Snap why sound.actors known.1.0),
+        refused_cause_on s s 0 on.Snap why sound.actors known.1.0,
       ),
       known.2,
       subst HoldsStore (sym known.1.1) holds,
@@ -161,11 +152,17 @@ forgets_holds s t snapshot dropped holds = record {
   slots = subst (λ (n : ℕ). 2 ≤ n) (sym dropped.slots) holds.slots;
 }
 
+-- the store becomes one without the backup
+abbrev pub Forgets : ℕ → Unit {0} → StoreValue → StoreValue → Type 0
+Forgets snapshot done old new = new ≡ forgotten_in snapshot old
+
+abbrev pub ForgetFails : ℕ → Serial → Fault → Type 0
+ForgetFails snapshot s why = IsForgetCause snapshot (value_in s.plain).backups why
+
 -- A BACKUP GOES
 pub forget_step : (snapshot : ℕ) (result : Result (Unit {0}) Fault) (old new : WorldState)
     → Leads (IsTold (call.SnapshotOrCleaner (on.Drop snapshot)) result (λ (done : Unit {0}). answers.Nothing)) old new
-    → Steps (BecomesBy (λ (done : Unit {0}) before after. after ≡ forgotten_in snapshot before)
-    (λ store why. (why ≡ fault.NoSnapshot) × (entries_at snapshot store.backups ≡ None)) result) old new
+    → Steps (BecomesBy (Forgets snapshot) (ForgetFails snapshot) result) old new
 forget_step snapshot (Ok done) old new leads = λ s stands holds.
     let known = leads s stands in
     let dropped = calls_drop s known.0 0 snapshot answers.Nothing known.1 in
@@ -179,89 +176,6 @@ forget_step snapshot (Err why) old new leads = λ s stands holds.
       known.2,
       subst HoldsStore (sym known.1.1) holds,
     )
-
--- ---- blocks are given back
-
-keeps_holds : (s t : Serial) → KeepsPlain s t → HoldsStore s → HoldsStore t
-keeps_holds s t keeps holds = record {
-  now = subst (λ (p : Plain). HoldFiles (node_in p.nodes)) (sym keeps.plain) holds.now;
-  backups = subst (λ (p : Plain). AllByRecursion (λ (copy : Copy). HoldFiles copy.nodes) p.copies) (sym keeps.plain) holds.backups;
-  slots = subst (λ (n : ℕ). 2 ≤ n) (sym keeps.slots) holds.slots;
-}
-
-keeps_value : (s t : Serial) → KeepsPlain s t → value_in t.plain ≡ value_in s.plain
-keeps_value s t keeps = ap value_in keeps.plain
-
--- the store stays
-abbrev pub Tidies : Unit {0} → StoreValue → StoreValue → Type 0
-Tidies done old new = new ≡ old
-
-abbrev pub TidyFails : StoreValue → Fault → Type 0
-TidyFails store why = IsTidyFault why
-
--- the log of the root has an entry
-root_log : (s : Serial) → IsSoundWorld s → has_entry (log_in s 0) ≡ true
-root_log s sound = let there = root_of (copies_now s) sound.tree in sound.logs root there.node there.is
-
-clean_fault : (s : Serial) (why : Fault) → IsSoundWorld s → IsCleanerCause s 0 0 why → IsTidyFault why
-clean_fault s fault.Stale sound cause = absurd (true≢false (sym (root_log s sound) ∙ cause))
-clean_fault s fault.NoSpace sound cause = tt
-clean_fault s other sound cause = absurd cause
-
--- a drain is refused for want of memory alone
-pub drain_refused : (most : ℕ) (why : Fault) (old new : WorldState)
-    → Leads (IsToldOrStarved (call.SnapshotOrCleaner (on.Drain most)) (Err why) (λ count. answers.Count count)) old new
-    → Steps (BecomesBy Tidies TidyFails (Err why)) old new
-drain_refused most why old new leads = λ s stands holds.
-    let known = leads s stands in (
-      known.0,
-      (ap (λ (u : Serial). value_in u.plain) known.1.1, cause s (files_sound old s stands) known.1.0),
-      known.2,
-      subst HoldsStore (sym known.1.1) holds,
-    ) where
-      cause : (s : Serial) → IsSoundWorld s
-          → (serial_call s 0 (call.SnapshotOrCleaner (on.Drain most)) ≡ refused why s) ⊎ (why ≡ out_of_memory) → IsTidyFault why
-      cause s sound (inl is) = absurd (refused_cause_on s s 0 (on.Drain most) why sound.actors is)
-      cause s sound (inr starved) = subst IsTidyFault (sym starved) tt
-
--- BLOCKS ARE GIVEN BACK, and the store stays
-pub tidy_step : (most count : ℕ) (cleaned : Cleaned) (old mid new : WorldState)
-    → Leads (IsToldOrStarved (call.SnapshotOrCleaner (on.Drain most)) (Ok count) (λ many. answers.Count many)) old mid
-    → Leads (IsToldOrStarved (call.SnapshotOrCleaner (on.Auto 0)) (Ok cleaned)
-    (λ (done : Cleaned). answers.Cleaned done.thorough done.entries done.pages)) mid new
-    → Steps (BecomesBy Tidies TidyFails (Ok tt)) old new
-tidy_step most count cleaned old mid new drains cleans = λ s stands holds.
-    let one = drains s stands in
-    let first = calls_keep_plain s one.0 0 (on.Drain most) (answers.Count count) refl one.1 in
-    let two = cleans one.0 one.2 in
-    let second = calls_keep_plain one.0 two.0 0 (on.Auto 0) (answers.Cleaned cleaned.thorough cleaned.entries cleaned.pages) refl two.1 in (
-      two.0,
-      keeps_value one.0 two.0 second ∙ keeps_value s one.0 first,
-      two.2,
-      keeps_holds one.0 two.0 second (keeps_holds s one.0 first holds),
-    )
-
-pub clean_refused : (most count : ℕ) (why : Fault) (old mid new : WorldState)
-    → Leads (IsToldOrStarved (call.SnapshotOrCleaner (on.Drain most)) (Ok count) (λ many. answers.Count many)) old mid
-    → Leads (IsToldOrStarved (call.SnapshotOrCleaner (on.Auto 0)) (Err why)
-    (λ (done : Cleaned). answers.Cleaned done.thorough done.entries done.pages)) mid new
-    → Steps (BecomesBy Tidies TidyFails (Err why)) old new
-clean_refused most count why old mid new drains cleans = λ s stands holds.
-    let one = drains s stands in
-    let first = calls_keep_plain s one.0 0 (on.Drain most) (answers.Count count) refl one.1 in
-    let two = cleans one.0 one.2 in (
-      two.0,
-      (
-        ap (λ (u : Serial). value_in u.plain) two.1.1 ∙ keeps_value s one.0 first,
-        cause one.0 (files_sound mid one.0 one.2) two.1.0,
-      ),
-      two.2,
-      subst HoldsStore (sym two.1.1) (keeps_holds s one.0 first holds),
-    ) where
-      cause : (t : Serial) → IsSoundWorld t
-          → (serial_call t 0 (call.SnapshotOrCleaner (on.Auto 0)) ≡ refused why t) ⊎ (why ≡ out_of_memory) → IsTidyFault why
-      cause t sound (inl is) = clean_fault t why sound (refused_cause_on t t 0 (on.Auto 0) why sound.actors is)
-      cause t sound (inr starved) = subst IsTidyFault (sym starved) tt
 
 -- ---- what is found in a backup
 

@@ -9,4 +9,5 @@ pub mod ReadSteps
 pub mod Refusals
 pub mod StoreLaws
 pub mod StoreSteps
+pub mod Tidies
 pub mod Told

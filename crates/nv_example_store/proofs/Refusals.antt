@@ -1,12 +1,12 @@
 -- Why the files of a store refuse its calls.
-use Rattle.std.proofs.Common.{◌≡◌, ◌⊎◌, ◌∙◌, ◌&&◌, ◌||◌, ℕ, Bool, true, false, List, [], ◌∷◌, ap, arith, inl, inr, Option, Some, None, Err, refl, subst, sym}
-use Rattle.std.specs.Prelude.{is_some, not}
+use Rattle.std.proofs.Common.{◌≡◌, ◌⊎◌, ◌∙◌, ◌+◌, ◌*◌, ◌<◌, ◌&&◌, ◌||◌, ℕ, Bool, true, false, List, [], ◌∷◌, ap, arith, inl, inr, length, Option, Some, None, Err, refl, subst, sym}
+use Rattle.std.specs.Prelude.{is_some, nat_lt, not}
 use Rattle.std.specs.Option.{option_map}
-use Rattle.std.proofs.lemmas.Bool.{true≢false}
-use Rattle.nv_base.specs.Memory.{out_of_memory}
+use Rattle.std.proofs.lemmas.Bool.{ltb-true, true≢false}
 use Rattle.nv_base.specs.Names.{is_lawful_name, same_name}
 use Rattle.nv_base.specs.declared.fault.Fault.{Fault}
 use Rattle.nv_base.specs.declared.fault.Fault.TheVariants as fault
+use Rattle.nv_base.specs.declared.limits.TheConstants.{FILE_PAGES, WRITE_PAGES}
 use Rattle.nv_base.specs.declared.node.Kind.{Kind}
 use Rattle.nv_base.specs.declared.node.Kind.TheVariants.{Dir, File}
 use Rattle.nv_base.specs.declared.numbers.Handle.{Handle}
@@ -16,9 +16,10 @@ use Rattle.nv_calls.specs.Refusals.{Check, and_then, bytes_of, found, is_directo
 use Rattle.nv_calls.specs.calls.Lookup.{lookup_refusal}
 use Rattle.nv_calls.specs.calls.Rename.{moved_refusal, own_place, pass_if, rename_early, replaced_refusal}
 use Rattle.nv_calls.specs.calls.Unlink.{unlink_late}
-use Rattle.nv_calls.specs.calls.Write.{text_refusal}
+use Rattle.nv_calls.specs.calls.Write.{count_refusal, text_refusal}
 use Rattle.nv_calls.specs.declared.call.Call.{Call}
 use Rattle.nv_calls.specs.declared.call.Call.TheVariants as call
+use Rattle.nv_entry.specs.Bytes.{pages_touched}
 use Rattle.nv_entry.specs.Tree.{names_under, root}
 use Rattle.nv_entry.specs.declared.node.NodeCopy.{NodeCopy}
 use Rattle.nv_machine.specs.EndsDecided.{is_snapshot_or_cleaner}
@@ -28,7 +29,7 @@ use Rattle.nv_serial.specs.Serial.{Serial, copies_now, refused}
 use Rattle.nv_effects.specs.Causes.{IsCause, IsShort, Passes}
 use Rattle.nv_effects.specs.Sound.{IsSoundWorld}
 use Rattle.nv_effects.proofs.Causes.{refused_cause}
-use Rattle.nv_example_store.specs.Faults.{IsPutFault, IsRemoveFault}
+use Rattle.nv_example_store.specs.Faults.{IsRemoveCause, IsTooLong}
 use Rattle.nv_example_store.specs.Held.{HasNoScratch}
 use Rattle.nv_example_store.specs.Keys.{scratch}
 use Rattle.nv_example_store.specs.Stored.{HoldsStore, value_in}
@@ -48,15 +49,19 @@ refusal_of why = Err why
 same_refusal : (one why : Fault) → refusal_of one ≡ refusal_of why → why ≡ one
 same_refusal one why e = cc
 
--- one test
-if_by : (b : Bool) (one why : Fault) → refuse_if b one passes ≡ Err why → why ≡ one
-if_by true one why e = same_refusal one why e
-if_by false one why e = no_refusal why e
+-- a file that is emptied is not too long
+none_below : {P : Type 0} (n : ℕ) (one why : Fault) → refuse_if (nat_lt n 0) one passes ≡ Err why → P
+none_below n one why e = go (nat_lt n 0) refl e where
+  go : {Q : Type 0} (b : Bool) → nat_lt n 0 ≡ b → refuse_if b one passes ≡ Err why → Q
+  go true is refused = absurd (omega (arith, ltb-true n 0 is))
+  go false is refused = no_refusal why refused
 
 -- two tests
-two_by : (b d : Bool) (one two why : Fault) → refuse_if b one (refuse_if d two passes) ≡ Err why → (why ≡ one) ⊎ (why ≡ two)
-two_by true d one two why e = inl (same_refusal one why e)
-two_by false d one two why e = inr (if_by d two why e)
+two_by : (b d : Bool) (one two why : Fault) → refuse_if b one (refuse_if d two passes) ≡ Err why
+    → ((why ≡ one) × (b ≡ true)) ⊎ ((why ≡ two) × (d ≡ true))
+two_by true d one two why e = inl (same_refusal one why e, refl)
+two_by false true one two why e = inr (same_refusal two why e, refl)
+two_by false false one two why e = no_refusal why e
 
 missing_by : (bound : Option Handle) (why : Fault) → want_bound bound (λ to. passes) ≡ Err why → (why ≡ fault.Missing) × (bound ≡ None)
 missing_by None why e = (same_refusal fault.Missing why e, refl)
@@ -71,17 +76,6 @@ in_directory kind unlawful next is lawful =
 
 of_file : (kind : Option Kind) (next : Check) → kind ≡ Some File → want_file kind next ≡ next
 of_file kind next is = ap (λ (k : Option Kind). want_file k next) is
-
--- ---- what a call is short of
-
-pub short_put : (s : Serial) (c : Call) (why : Fault) → IsShort s 0 c why → IsPutFault why
-short_put s c fault.NoInode short = tt
-short_put s c fault.NoSpace short = tt
-short_put s c fault.CommitLimit short = tt
-short_put s c other short = absurd short
-
-pub starved_put : (why : Fault) → why ≡ out_of_memory → IsPutFault why
-starved_put why is = subst IsPutFault (sym is) tt
 
 -- ---- refusals of the files of a store
 
@@ -134,7 +128,7 @@ module _ (s : Serial) (sound : IsSoundWorld s) where
 
   -- the file under the name that is no key is made, cut and written
   pub create_why : (t : Serial) (mode : ℕ) (why : Fault) → HasNoScratch s
-      → serial_call s 0 (call.Create root scratch mode) ≡ refused why t → IsPutFault why
+      → serial_call s 0 (call.Create root scratch mode) ≡ refused why t → IsShort s 0 (call.Create root scratch mode) why
   create_why t mode why none is = go (why_of t (call.Create root scratch mode) why refl is) where
     passed : refusal s.numbers.block nodes (call.Create root scratch mode) ≡ passes
     passed =
@@ -142,33 +136,46 @@ module _ (s : Serial) (sound : IsSoundWorld s) where
         ∙ ap (λ (o : Option Handle). refuse_if (is_some o) fault.Exists passes) none
 
     go : (refusal s.numbers.block nodes (call.Create root scratch mode) ≡ Err why) ⊎ (Passes s 0 (call.Create root scratch mode) × IsShort s 0 (call.Create root scratch mode) why)
-        → IsPutFault why
+        → IsShort s 0 (call.Create root scratch mode) why
     go (inl e) = no_refusal why (sym passed ∙ e)
-    go (inr short) = short_put s (call.Create root scratch mode) why short.1
+    go (inr short) = short.1
 
   pub size_why : (t : Serial) (file : Handle) (why : Fault) → kind_of (nodes file) ≡ Some File
-      → serial_call s 0 (call.Size file 0) ≡ refused why t → IsPutFault why
+      → serial_call s 0 (call.Size file 0) ≡ refused why t → IsShort s 0 (call.Size file 0) why
   size_why t file why kind is = go (why_of t (call.Size file 0) why refl is) where
     go : (refusal s.numbers.block nodes (call.Size file 0) ≡ Err why) ⊎ (Passes s 0 (call.Size file 0) × IsShort s 0 (call.Size file 0) why)
-        → IsPutFault why
-    go (inl e) = subst IsPutFault (sym (if_by _ fault.FileTooBig why (sym (of_file (kind_of (nodes file)) _ kind) ∙ e))) tt
-    go (inr short) = short_put s (call.Size file 0) why short.1
+        → IsShort s 0 (call.Size file 0) why
+    go (inl e) =
+        none_below (FILE_PAGES * s.numbers.block) fault.FileTooBig why
+        (sym (of_file (kind_of (nodes file)) (refuse_if (nat_lt (FILE_PAGES * s.numbers.block) 0) fault.FileTooBig passes) kind) ∙ e)
+    go (inr short) = short.1
 
   pub write_why : (t : Serial) (file : Handle) (text : List ℕ) (why : Fault) → kind_of (nodes file) ≡ Some File
-      → serial_call s 0 (call.Write file 0 text) ≡ refused why t → IsPutFault why
+      → serial_call s 0 (call.Write file 0 text) ≡ refused why t
+      → IsTooLong s.numbers.block (length text) why ⊎ IsShort s 0 (call.Write file 0 text) why
   write_why t file text why kind is = go (why_of t (call.Write file 0 text) why refl is) where
-    either : (why ≡ fault.WriteTooBig) ⊎ (why ≡ fault.FileTooBig) → IsPutFault why
-    either (inl same) = subst IsPutFault (sym same) tt
-    either (inr same) = subst IsPutFault (sym same) tt
+    by_count : (count : ℕ) → count_refusal s.numbers.block 0 count ≡ Err why → IsTooLong s.numbers.block count why
+    by_count count e =
+        either (two_by (nat_lt WRITE_PAGES (pages_touched s.numbers.block 0 count)) (nat_lt (FILE_PAGES * s.numbers.block) (0 + count))
+        fault.WriteTooBig fault.FileTooBig why e) where
+          either : ((why ≡ fault.WriteTooBig) × (nat_lt WRITE_PAGES (pages_touched s.numbers.block 0 count) ≡ true))
+              ⊎ ((why ≡ fault.FileTooBig) × (nat_lt (FILE_PAGES * s.numbers.block) (0 + count) ≡ true))
+              → IsTooLong s.numbers.block count why
+          either (inl both) =
+              subst (IsTooLong s.numbers.block count) (sym both.0) (ltb-true WRITE_PAGES (pages_touched s.numbers.block 0 count) both.1)
+          either (inr both) =
+              let past : FILE_PAGES * s.numbers.block < 0 + count = ltb-true (FILE_PAGES * s.numbers.block) (0 + count) both.1 in
+              let longer : FILE_PAGES * s.numbers.block < count = omega (arith, past) in
+              subst (IsTooLong s.numbers.block count) (sym both.0) longer
 
-    by_text : (bytes : List ℕ) → text_refusal s.numbers.block 0 bytes ≡ Err why → IsPutFault why
+    by_text : (bytes : List ℕ) → text_refusal s.numbers.block 0 bytes ≡ Err why → IsTooLong s.numbers.block (length bytes) why
     by_text [] e = no_refusal why e
-    by_text (byte ∷ rest) e = either (two_by _ _ fault.WriteTooBig fault.FileTooBig why e)
+    by_text (byte ∷ rest) e = by_count (length (byte ∷ rest)) e
 
     go : (refusal s.numbers.block nodes (call.Write file 0 text) ≡ Err why) ⊎ (Passes s 0 (call.Write file 0 text) × IsShort s 0 (call.Write file 0 text) why)
-        → IsPutFault why
-    go (inl e) = by_text text (sym (of_file (kind_of (nodes file)) (text_refusal s.numbers.block 0 text) kind) ∙ e)
-    go (inr short) = short_put s (call.Write file 0 text) why short.1
+        → IsTooLong s.numbers.block (length text) why ⊎ IsShort s 0 (call.Write file 0 text) why
+    go (inl e) = inl (by_text text (sym (of_file (kind_of (nodes file)) (text_refusal s.numbers.block 0 text) kind) ∙ e))
+    go (inr short) = inr short.1
 
 module _ (s : Serial) (sound : IsSoundWorld s) (holds : HoldsStore s) (key : List ℕ) (lawful : is_lawful_name key ≡ true) where
   abbrev there : Handle → Option NodeCopy
@@ -221,12 +228,12 @@ module _ (s : Serial) (sound : IsSoundWorld s) (holds : HoldsStore s) (key : Lis
       ∙ late
 
   pub rename_why : (t : Serial) (file : Handle) (why : Fault) → same_name scratch key ≡ false → lookup there root scratch ≡ Some file
-      → serial_call s 0 (call.Rename root scratch root key) ≡ refused why t → IsPutFault why
+      → serial_call s 0 (call.Rename root scratch root key) ≡ refused why t → IsShort s 0 (call.Rename root scratch root key) why
   rename_why t file why differ bound is = go (why_of s sound t (call.Rename root scratch root key) why refl is) where
     go : (refusal s.numbers.block there (call.Rename root scratch root key) ≡ Err why) ⊎ (Passes s 0 (call.Rename root scratch root key) × IsShort s 0 (call.Rename root scratch root key) why)
-        → IsPutFault why
+        → IsShort s 0 (call.Rename root scratch root key) why
     go (inl e) = no_refusal why (sym (rename_passes file differ bound) ∙ e)
-    go (inr short) = short_put s (call.Rename root scratch root key) why short.1
+    go (inr short) = short.1
 
   -- ---- a key is removed
 
@@ -256,26 +263,15 @@ module _ (s : Serial) (sound : IsSoundWorld s) (holds : HoldsStore s) (key : Lis
   value_is other bound is =
       value_found there key other ∙ ap (option_map (λ (to : Handle). bytes_of (there to))) is
 
-  -- what a removal is short of, where the key has a value
-  short_remove : (why : Fault) → IsShort s 0 (call.Unlink root key) why → has_value key (value_in s.plain).entries ≡ true
-      → IsRemoveFault key (value_in s.plain).entries why
-  short_remove fault.NoInode short has = absurd (let z : Some root ≡ None = short in cc)
-  short_remove fault.NoSpace short has = has
-  short_remove fault.CommitLimit short has = has
-  short_remove other short has = absurd short
-
   pub remove_why : (t : Serial) (why : Fault) → same_name key scratch ≡ false
-      → serial_call s 0 (call.Unlink root key) ≡ refused why t → IsRemoveFault key (value_in s.plain).entries why
+      → serial_call s 0 (call.Unlink root key) ≡ refused why t → IsRemoveCause key s why
   remove_why t why other is = go (why_of s sound t (call.Unlink root key) why refl is) (lookup there root key) refl where
     go : (refusal s.numbers.block there (call.Unlink root key) ≡ Err why) ⊎ (Passes s 0 (call.Unlink root key) × IsShort s 0 (call.Unlink root key) why)
-        → (bound : Option Handle) → lookup there root key ≡ bound → IsRemoveFault key (value_in s.plain).entries why
-    go (inl e) None at =
-        let same : why ≡ fault.Missing = (missing_by None why (sym (unlink_by None at) ∙ e)).0 in
-        subst (IsRemoveFault key (value_in s.plain).entries) (sym same) (value_is other None at)
+        → (bound : Option Handle) → lookup there root key ≡ bound → IsRemoveCause key s why
+    go (inl e) None at = inl ((missing_by None why (sym (unlink_by None at) ∙ e)).0, value_is other None at)
     go (inl e) (Some to) at = no_refusal why (sym (unlink_by (Some to) at) ∙ e)
     go (inr short) None at = no_refusal fault.Missing (sym short.0.unrefused ∙ unlink_by None at)
-    go (inr short) (Some to) at =
-        short_remove why short.1 (ap is_some (value_is other (Some to) at))
+    go (inr short) (Some to) at = inr (inl (ap is_some (value_is other (Some to) at), short.1))
 
   -- a key that is removed had a value
   pub removed_had : same_name key scratch ≡ false → refusal s.numbers.block there (call.Unlink root key) ≡ passes

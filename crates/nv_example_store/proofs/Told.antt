@@ -9,10 +9,11 @@ use Rattle.nv_machine.specs.PlainRun.{Plain}
 use Rattle.nv_serial.specs.Serial.{Serial}
 use Rattle.nv_files.specs.Stands.{Stands}
 use Rattle.nv_files.proofs.Standing.{plain_stands}
-use Rattle.nv_example_store.specs.Faults.{IsKeyFault}
-use Rattle.nv_example_store.specs.Held.{BecomesBy, FindsBy}
+use Rattle.nv_example_store.specs.Faults.{IsKeyFault, IsTidyCause}
+use Rattle.nv_example_store.specs.Held.{BecomesBy, FindsBy, TidiesBy}
 use Rattle.nv_example_store.specs.Keys.{may_be_key, scratch}
-use Rattle.nv_example_store.specs.Stored.{IsStore, Steps, store_in, value_in}
+use Rattle.nv_example_store.specs.Stored.{IsCausedIn, IsStore, Steps, store_in, value_in}
+use Rattle.nv_example_store.specs.Tidied.{IsTidied}
 use Rattle.nv_example_store.specs.Values.{StoreValue}
 
 -- files show the store that their world holds
@@ -24,9 +25,9 @@ pub rests : (To : Serial → Serial → Type 0) (old new : WorldState) → IsSto
 rests To old new (s, stands, holds) steps = let next = steps s stands holds in (next.0, next.2, next.3)
 
 -- by the result: what the store becomes, and why a step is refused
-pub by_result : {T : Type 0} (To : T → StoreValue → StoreValue → Type 0) (Fails : StoreValue → Fault → Type 0) (result : Result T Fault)
+pub by_result : {T : Type 0} (To : T → StoreValue → StoreValue → Type 0) (Fails : Serial → Fault → Type 0) (result : Result T Fault)
     (old new : WorldState) → IsStore old → Steps (BecomesBy To Fails result) old new
-    → IfOk result (λ done. To done (store_in old) (store_in new)) × IfErr result (Fails (store_in old))
+    → IfOk result (λ done. To done (store_in old) (store_in new)) × IfErr result (IsCausedIn Fails old)
     × OnErr result (store_in new ≡ store_in old)
 by_result To Fails (Ok done) old new (s, stands, holds) steps =
     let next = steps s stands holds in
@@ -36,7 +37,30 @@ by_result To Fails (Ok done) old new (s, stands, holds) steps =
 by_result To Fails (Err why) old new (s, stands, holds) steps =
     let next = steps s stands holds in (
       tt,
-      subst (λ (v : StoreValue). Fails v why) (sym (shown old s stands)) next.1.1,
+      (λ t rests_as has. (steps t rests_as has).1.1),
+      shown new next.0 next.2 ∙ next.1.0 ∙ sym (shown old s stands),
+    )
+
+-- a cause that the store alone decides
+pub cause_shown : {T : Type 0} (Fails : StoreValue → Fault → Type 0) (result : Result T Fault) (old : WorldState) → IsStore old
+    → IfErr result (IsCausedIn (λ s why. Fails (value_in s.plain) why) old) → IfErr result (Fails (store_in old))
+cause_shown Fails (Ok done) old is causes = tt
+cause_shown Fails (Err why) old (s, stands, holds) causes =
+    subst (λ (v : StoreValue). Fails v why) (sym (shown old s stands)) (causes s stands holds)
+
+-- the same of a tidying
+pub tidied_by : (result : Result (Unit {0}) Fault) (old new : WorldState) → IsStore old → Steps (TidiesBy result) old new
+    → OnOk result (Steps IsTidied old new) × IfErr result (IsCausedIn IsTidyCause old) × (store_in new ≡ store_in old)
+tidied_by (Ok done) old new (s, stands, holds) steps =
+    let next = steps s stands holds in (
+      (λ t rests_as has. let then = steps t rests_as has in (then.0, then.1.1, then.2, then.3)),
+      tt,
+      shown new next.0 next.2 ∙ next.1.0 ∙ sym (shown old s stands),
+    )
+tidied_by (Err why) old new (s, stands, holds) steps =
+    let next = steps s stands holds in (
+      tt,
+      (λ t rests_as has. (steps t rests_as has).1.1),
       shown new next.0 next.2 ∙ next.1.0 ∙ sym (shown old s stands),
     )
 
@@ -79,8 +103,3 @@ of_key Of key (Err why) is fails = inr (is, fails)
 pub both_ok : {T E : Type 0} (P Q : Type 0) (result : Result T E) → IfOk result (λ done. P × Q) → OnOk result P × OnOk result Q
 both_ok P Q (Ok done) both = both
 both_ok P Q (Err why) both = (tt, tt)
-
--- the store stays, whether a step is made or refused
-pub stays_either : {T E P : Type 0} (result : Result T E) → IfOk result (λ done. P) → OnErr result P → P
-stays_either (Ok done) ok err = ok
-stays_either (Err why) ok err = err

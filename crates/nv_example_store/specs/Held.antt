@@ -1,16 +1,20 @@
 -- What the steps of a store leave of it.
-use Rattle.std.specs.Prelude.{◌≡◌, ℕ, Bool, false, if◌then◌else◌, List, [], ◌∷◌, map, Option, Some, None, Result, Ok, Err}
+use Rattle.std.specs.Prelude.{◌≡◌, ◌⊎◌, ℕ, Bool, false, if◌then◌else◌, List, [], ◌∷◌, map, Option, Some, None, Result, Ok, Err}
+use Rattle.nv_base.specs.Memory.{out_of_memory}
 use Rattle.nv_base.specs.Names.{same_name}
 use Rattle.nv_base.specs.declared.fault.Fault.{Fault}
 use Rattle.nv_base.specs.declared.numbers.Handle.{Handle}
+use Rattle.nv_calls.specs.declared.call.Call.{Call}
 use Rattle.nv_entry.specs.Index.{bound_to, without}
 use Rattle.nv_entry.specs.Tree.{names_under, root}
 use Rattle.nv_entry.specs.declared.names.BoundName.{BoundName}
 use Rattle.nv_entry.specs.declared.tree.TreeNode.{TreeNode}
 use Rattle.nv_serial.specs.Serial.{Serial, copies_now}
-use Rattle.nv_example_store.specs.Faults.{IsPutFault}
+use Rattle.nv_effects.specs.Causes.{IsShort}
+use Rattle.nv_example_store.specs.Faults.{IsTidyCause, emptying}
 use Rattle.nv_example_store.specs.Keys.{scratch}
 use Rattle.nv_example_store.specs.Stored.{IsScratch, value_in}
+use Rattle.nv_example_store.specs.Tidied.{IsTidied, after}
 use Rattle.nv_example_store.specs.Values.{StoreValue}
 
 -- the store stays
@@ -18,15 +22,31 @@ abbrev pub SameStore : Serial → Serial → Type 0
 SameStore old new = value_in new.plain ≡ value_in old.plain
 
 -- the store becomes what this says, or the step is refused so and the store stays
-abbrev pub BecomesBy : {T : Type 0} → (T → StoreValue → StoreValue → Type 0) → (StoreValue → Fault → Type 0) → Result T Fault
+abbrev pub BecomesBy : {T : Type 0} → (T → StoreValue → StoreValue → Type 0) → (Serial → Fault → Type 0) → Result T Fault
     → Serial → Serial → Type 0
 BecomesBy To Fails (Ok done) old new = To done (value_in old.plain) (value_in new.plain)
-BecomesBy To Fails (Err why) old new = SameStore old new × Fails (value_in old.plain) why
+BecomesBy To Fails (Err why) old new = SameStore old new × Fails old why
 
--- the store stays, and a file with these bytes stands under the name that is no key, unless the step is refused
-abbrev pub WritesScratch : Result Handle Fault → List ℕ → Serial → Serial → Type 0
-WritesScratch (Ok file) bytes old new = SameStore old new × IsScratch new file bytes
-WritesScratch (Err why) bytes old new = SameStore old new × IsPutFault why
+-- a call has left a file with these bytes under the name that is no key, and the store stays
+pub record IsLeft (c : Call) (file : Handle) (bytes : List ℕ) (old new : Serial) : Type 0 where
+  -- the store stays
+  pub same : SameStore old new
+  -- the file is there
+  pub there : IsScratch new file bytes
+  -- the world is the one after the call
+  pub world : new ≡ after old c
+  -- its blocks are as large
+  pub block : new.numbers.block ≡ old.numbers.block
+
+-- an empty file is left under the name that is no key, unless the step is refused; the store stays
+abbrev pub EmptiesBy : Result Handle Fault → Serial → Serial → Type 0
+EmptiesBy (Ok file) old new = IsLeft (emptying old) file [] old new
+EmptiesBy (Err why) old new = SameStore old new × (IsShort old 0 (emptying old) why ⊎ (why ≡ out_of_memory))
+
+-- blocks are given back, unless the step is refused; the store stays
+abbrev pub TidiesBy : Result (Unit {0}) Fault → Serial → Serial → Type 0
+TidiesBy (Ok done) old new = SameStore old new × IsTidied old new
+TidiesBy (Err why) old new = SameStore old new × IsTidyCause old why
 
 -- no name of the root is that one
 abbrev pub HasNoScratch : Serial → Type 0

@@ -2,4 +2,5 @@ pub mod Faults
 pub mod Held
 pub mod Keys
 pub mod Stored
+pub mod Tidied
 pub mod Values

@@ -2,6 +2,7 @@
 -- no key, a value is written before it takes a key's place.
 use Rattle.std.specs.Prelude.{◌≡◌, ◌≤◌, ℕ, List, length, map, Option, Some}
 use Rattle.std.specs.List.{AllByRecursion}
+use Rattle.nv_base.specs.declared.fault.Fault.{Fault}
 use Rattle.nv_base.specs.declared.node.Kind.TheVariants.{File}
 use Rattle.nv_base.specs.declared.numbers.Handle.{Handle}
 use Rattle.nv_calls.specs.Plain.{node_in}
@@ -54,6 +55,10 @@ pub record HoldsStore (s : Serial) : Type 0 where
 -- files hold a store
 abbrev pub IsStore : WorldState → Type 0
 IsStore w = (s : Serial) × Stands w s × HoldsStore s
+
+-- as whatever world with numbers files stand that hold a store, this is why
+abbrev pub IsCausedIn : (Serial → Fault → Type 0) → WorldState → Fault → Type 0
+IsCausedIn Cause w why = (s : Serial) → Stands w s → HoldsStore s → Cause s why
 
 -- a file stands under the name that is no key, with these bytes
 pub record IsScratch (s : Serial) (file : Handle) (bytes : List ℕ) : Type 0 where

@@ -9,8 +9,9 @@ ghost use Rattle.nv_calls.specs.Refusals as nodes;
 ghost use Rattle.nv_entry.specs.Index.{bound_to};
 ghost use Rattle.nv_entry.specs.Tree.{names_under, root};
 ghost use Rattle.nv_serial.specs.Serial.{copies_now};
-ghost use Rattle.nv_example_store.specs.Faults.{IsBackupFault, IsPutFault, IsRemoveFault, IsSnapFault, IsTidyFault};
-ghost use Rattle.nv_example_store.specs.Held.{BecomesBy, FindsBy, HasNoScratch, WritesScratch, bytes_at, is_path, keys_among};
+ghost use Rattle.nv_effects.specs.Causes.{IsSnapCause};
+ghost use Rattle.nv_example_store.specs.Faults.{IsBackupFault, IsForgetCause, IsPutCause, IsRemoveCause};
+ghost use Rattle.nv_example_store.specs.Held.{BecomesBy, EmptiesBy, FindsBy, HasNoScratch, TidiesBy, bytes_at, is_path, keys_among};
 ghost use Rattle.nv_example_store.specs.Keys.{may_be_key, scratch};
 ghost use Rattle.nv_example_store.specs.Stored.{Steps, value_in};
 ghost use Rattle.nv_example_store.specs.Values.{IsBackedUp, IsBackupValue, entries_at, forgotten_in, has_value, keys_of, put_in, removed_in, value_of};
@@ -56,7 +57,7 @@ fn find(files: &mut Files, name: &[u8]) -> Result<Option<Handle>, Fault>
 pub(crate) fn put(files: &mut Files, key: &[u8], value: &[u8]) -> Result<(), Fault>
     requires { may_be_key key.now ≡ true }
     ensures { Steps (BecomesBy (λ _ old new. new ≡ put_in key.now value.now old)
-        (λ _ why. IsPutFault why) result) files.old files.new }
+        (IsPutCause key.now value.now) result) files.old files.new }
 {
     let file = empty_scratch(files)?;
     files.write(file, 0, value)?;
@@ -72,7 +73,7 @@ fn same(file: &Handle) -> Handle
 
 /// An empty file under the name that is no key. An earlier put that was refused may have left one.
 fn empty_scratch(files: &mut Files) -> Result<Handle, Fault>
-    ensures { Steps (WritesScratch result []) files.old files.new }
+    ensures { Steps (EmptiesBy result) files.old files.new }
 {
     match find(files, SCRATCH)? {
         Some(file) => {
@@ -85,7 +86,7 @@ fn empty_scratch(files: &mut Files) -> Result<Handle, Fault>
 
 /// Makes that file, where there is none.
 fn new_scratch(files: &mut Files) -> Result<Handle, Fault>
-    ensures { Steps (λ s t. HasNoScratch s → WritesScratch result [] s t) files.old files.new }
+    ensures { Steps (λ s t. HasNoScratch s → EmptiesBy result s t) files.old files.new }
 {
     let mode = Mode::checked(0o600).unwrap();
     files.create(root(), SCRATCH, mode)
@@ -96,7 +97,7 @@ pub(crate) fn remove(files: &mut Files, key: &[u8]) -> Result<(), Fault>
     requires { may_be_key key.now ≡ true }
     ensures { Steps (BecomesBy (λ _ old new.
         (has_value key.now old.entries ≡ true) × (new ≡ removed_in key.now old))
-        (λ old why. IsRemoveFault key.now old.entries why) result) files.old files.new }
+        (IsRemoveCause key.now) result) files.old files.new }
 {
     files.unlink(root(), key)
 }
@@ -154,7 +155,7 @@ fn keys_among(alloc: Global, names: &[BoundName]) -> Result<Items<Name>, Fault>
 
 /// Makes a backup.
 pub(crate) fn backup(files: &mut Files) -> Result<Epoch, Fault>
-    ensures { Steps (BecomesBy IsBackedUp (λ _ why. IsSnapFault why) result) files.old files.new }
+    ensures { Steps (BecomesBy IsBackedUp IsSnapCause result) files.old files.new }
 {
     files.snap()
 }
@@ -162,7 +163,7 @@ pub(crate) fn backup(files: &mut Files) -> Result<Epoch, Fault>
 /// Lets a backup go.
 pub(crate) fn forget(files: &mut Files, backup: Epoch) -> Result<(), Fault>
     ensures { Steps (BecomesBy (λ _ old new. new ≡ forgotten_in backup old)
-        (λ old why. (why ≡ Fault.NoSnapshot) × (entries_at backup old.backups ≡ None)) result)
+        (λ s why. IsForgetCause backup (value_in s.plain).backups why) result)
         files.old files.new }
 {
     files.drop_snap(backup)
@@ -210,8 +211,7 @@ fn is_path(path: &Path, key: &[u8]) -> bool
 
 /// Releases what no entry and no backup needs, and cleans the log of the root.
 pub(crate) fn tidy(files: &mut Files) -> Result<(), Fault>
-    ensures { Steps (BecomesBy (λ _ old new. new ≡ old) (λ _ why. IsTidyFault why) result)
-        files.old files.new }
+    ensures { Steps (TidiesBy result) files.old files.new }
 {
     files.drain(u64::MAX)?;
     files.clean_auto(root().ino)?;

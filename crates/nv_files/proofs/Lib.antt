@@ -1,3 +1,4 @@
+pub mod Led
 pub mod Methods
 pub mod Standing
 pub mod WholeCalls

@@ -1,12 +1,15 @@
 //! Calls on nodes and their names.
 
+ghost use Rattle.nv_entry.specs.Tree.{root};
+ghost use Rattle.nv_files.specs.Paths.{IsLed};
 ghost use Rattle.nv_files.specs.Stands.{Leads};
 ghost use Rattle.nv_files.specs.Told.{IsTold, IsToldOrStarved};
 
 use crate::answers::{Stat, names_of, stat_of};
 use crate::files::Files;
-use nv_base::{Fault, Handle, Mode};
+use nv_base::{Fault, Handle, Mode, Name};
 use nv_calls::{Answer, Call};
+use nv_core::root;
 use nv_entry::NameList;
 
 impl Files {
@@ -41,6 +44,19 @@ impl Files {
     {
         let name = self.copy_of(name)?;
         self.find(Call::Lookup { dir, name })
+    }
+
+    /// Finds the node at a path: its names are looked up one after another, from the root on.
+    pub fn path(&mut self, names: &[Name]) -> Result<Handle, Fault>
+        // A path tells the handle to which its names lead from the root on. It is refused `NotDirectory` below a file and
+        // `Missing` at a name that nothing has, or for want of memory. Nothing changes.
+        ensures { Leads (IsLed root names.now result) self.old self.new }
+    {
+        let mut at = root();
+        for name in names {
+            at = self.lookup(at, name.bytes())?;
+        }
+        Ok(at)
     }
 
     /// Lists the names of a directory in the order in which they were bound.

@@ -1,12 +1,12 @@
 use Rattle.std.proofs.lemmas.Result.{err_from_is_err_and}
-use Rattle.nv_example_store.proofs.StoreSteps.{put_refused, put_step}
+use Rattle.nv_example_store.proofs.StoreSteps.{emptying_refused, put_refused, put_step}
 use Rattle.nv_example_store.proofs.Told.{key_is}
 use Rattle.nv_example_store.proofs.steps.put.Goals as goal
 
 pub returns-in_err-file : goal.returns-in_err-file
 returns-in_err-file c =
     let p = err_from_is_err_and c.from_residual.result c.from_residual.ensures.1 in
-    rw (p.1, p.2) c.in_err-file.ensures
+    rw (p.1, p.2) (emptying_refused c.args.key.now c.args.value.now _ c.args.files.now c.empty_scratch.new.files c.in_err-file.ensures)
 
 pub returns-in_err-write : goal.returns-in_err-write
 returns-in_err-write c =

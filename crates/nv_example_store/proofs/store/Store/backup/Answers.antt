@@ -1,6 +1,5 @@
-use Rattle.nv_base.specs.declared.fault.Fault.{Fault}
-use Rattle.nv_example_store.specs.Faults.{IsSnapFault}
-use Rattle.nv_example_store.specs.Values.{IsBackedUp, StoreValue}
+use Rattle.nv_effects.specs.Causes.{IsSnapCause}
+use Rattle.nv_example_store.specs.Values.{IsBackedUp}
 use Rattle.nv_example_store.proofs.Told.{by_result, rests}
 use Rattle.nv_example_store.proofs.store.Store.backup.Goals as goal
 
@@ -10,12 +9,12 @@ invariant_of-self c =
 
 pub returns-clause-ok : goal.returns-clause-ok
 returns-clause-ok c =
-    rw (← c.self.view_is) (by_result IsBackedUp (λ (store : StoreValue) (why : Fault). IsSnapFault why) c.backup.result c.self.inside.files c.backup.new.files c.self.invariant c.backup.ensures).0
+    rw (← c.self.view_is) (by_result IsBackedUp IsSnapCause c.backup.result c.self.inside.files c.backup.new.files c.self.invariant c.backup.ensures).0
 
 pub returns-clause-err : goal.returns-clause-err
 returns-clause-err c =
-    (by_result IsBackedUp (λ (store : StoreValue) (why : Fault). IsSnapFault why) c.backup.result c.self.inside.files c.backup.new.files c.self.invariant c.backup.ensures).1
+    rw (← c.self.view_is) (by_result IsBackedUp IsSnapCause c.backup.result c.self.inside.files c.backup.new.files c.self.invariant c.backup.ensures).1
 
 pub returns-clause-same : goal.returns-clause-same
 returns-clause-same c =
-    rw (← c.self.view_is) (by_result IsBackedUp (λ (store : StoreValue) (why : Fault). IsSnapFault why) c.backup.result c.self.inside.files c.backup.new.files c.self.invariant c.backup.ensures).2
+    rw (← c.self.view_is) (by_result IsBackedUp IsSnapCause c.backup.result c.self.inside.files c.backup.new.files c.self.invariant c.backup.ensures).2

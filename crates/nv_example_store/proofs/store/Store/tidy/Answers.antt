@@ -1,5 +1,4 @@
-use Rattle.nv_example_store.proofs.Backups.{Tidies, TidyFails}
-use Rattle.nv_example_store.proofs.Told.{by_result, rests, stays_either}
+use Rattle.nv_example_store.proofs.Told.{rests, tidied_by}
 use Rattle.nv_example_store.proofs.store.Store.tidy.Goals as goal
 
 pub invariant_of-self : goal.invariant_of-self
@@ -8,8 +7,12 @@ invariant_of-self c =
 
 pub returns-clause-same : goal.returns-clause-same
 returns-clause-same c =
-    rw (← c.self.view_is) (stays_either c.tidy.result (by_result Tidies TidyFails c.tidy.result c.self.inside.files c.tidy.new.files c.self.invariant c.tidy.ensures).0 (by_result Tidies TidyFails c.tidy.result c.self.inside.files c.tidy.new.files c.self.invariant c.tidy.ensures).2)
+    rw (← c.self.view_is) (tidied_by c.tidy.result c.self.inside.files c.tidy.new.files c.self.invariant c.tidy.ensures).2
+
+pub returns-clause-ok : goal.returns-clause-ok
+returns-clause-ok c =
+    rw (← c.self.view_is) (tidied_by c.tidy.result c.self.inside.files c.tidy.new.files c.self.invariant c.tidy.ensures).0
 
 pub returns-clause-err : goal.returns-clause-err
 returns-clause-err c =
-    (by_result Tidies TidyFails c.tidy.result c.self.inside.files c.tidy.new.files c.self.invariant c.tidy.ensures).1
+    rw (← c.self.view_is) (tidied_by c.tidy.result c.self.inside.files c.tidy.new.files c.self.invariant c.tidy.ensures).1
