@@ -1,0 +1,39 @@
+use Rattle.nv_mount_laws.proofs.Makings.{creates_keep, mkdirs_keep, mknods_keep}
+use Rattle.nv_mount_laws.proofs.Sets.{sets_keep}
+use Rattle.nv_mount_laws.proofs.Contents.{fallocates_keep, writes_keep}
+use Rattle.nv_mount_laws.proofs.NewMounts.{new_hidden}
+use Rattle.nv_mount_laws.proofs.Stays.{openings_keep, releases_keep, rmdirs_keep, unlinks_keep}
+use Rattle.nv_mount_laws.proofs.laws.hidden_files_stay_hidden.Goals as goal
+
+pub returns-clause-unlink : goal.returns-clause-unlink
+returns-clause-unlink c = unlinks_keep
+
+pub returns-clause-rmdir : goal.returns-clause-rmdir
+returns-clause-rmdir c = rmdirs_keep
+
+pub returns-clause-open : goal.returns-clause-open
+returns-clause-open c = openings_keep
+
+pub returns-clause-release : goal.returns-clause-release
+returns-clause-release c = releases_keep
+
+pub returns-clause-new : goal.returns-clause-new
+returns-clause-new c = new_hidden
+
+pub returns-clause-write : goal.returns-clause-write
+returns-clause-write c = writes_keep
+
+pub returns-clause-fallocate : goal.returns-clause-fallocate
+returns-clause-fallocate c = fallocates_keep
+
+pub returns-clause-set : goal.returns-clause-set
+returns-clause-set c = sets_keep
+
+pub returns-clause-mknod : goal.returns-clause-mknod
+returns-clause-mknod c = mknods_keep
+
+pub returns-clause-mkdir : goal.returns-clause-mkdir
+returns-clause-mkdir c = mkdirs_keep
+
+pub returns-clause-create : goal.returns-clause-create
+returns-clause-create c = creates_keep

@@ -1,0 +1,5 @@
+pub mod Files
+pub mod Hidden
+pub mod Open
+pub mod Refused
+pub mod World

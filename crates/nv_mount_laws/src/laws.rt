@@ -1,0 +1,157 @@
+//! Laws of the requests of a mount. Each is the contract of a function that does nothing.
+
+ghost use Rattle.std.specs.Prelude.{◌^◌, ◌<◌, ℕ, List, Option, length};
+ghost use Rattle.nv_base.specs.declared.numbers.Handle.{Handle};
+ghost use Rattle.nv_fuse.specs.declared.header.Header.{Header};
+ghost use Rattle.nv_fuse.specs.declared.operation.SetAttributes.{SetAttributes};
+ghost use Rattle.nv_mount_answers.specs.declared.kept.Time.{Time};
+ghost use Rattle.nv_mount_beside.specs.declared.outcome.Outcome.{Outcome};
+ghost use Rattle.nv_mounted.specs.Contents.{fallocate, read_bytes, write_bytes};
+ghost use Rattle.nv_mounted.specs.Dialogues.{Dialogue};
+ghost use Rattle.nv_mounted.specs.Makings.{create, mkdir, mknod};
+ghost use Rattle.nv_mounted.specs.Renames.{move_over_open, rename};
+ghost use Rattle.nv_mounted.specs.Sets.{set_attributes};
+ghost use Rattle.nv_mounted.specs.Talks.{get_attributes, lookup_name, open_node, release, rmdir, unlink};
+ghost use Rattle.nv_mounted.specs.declared.side.Side.{Side};
+ghost use Rattle.nv_serial.specs.Serial.{Serial};
+ghost use Rattle.nv_mount_laws.specs.Files.{IsPlain};
+ghost use Rattle.nv_mount_laws.specs.Hidden.{AnsweredKeepsHidden, AreHidden, IsNewMount, KeepsHidden, NamesAnother};
+ghost use Rattle.nv_mount_laws.specs.Open.{LeavesOpenFiles, LeavesOpens, LeavesReplaced};
+ghost use Rattle.nv_mount_laws.specs.Refused.{ChangesNothing, IsPartlySet, IsUnnumbered, RefusedChanges, RefusedChangesNothing, RenameChanges};
+
+/// A mount of files is one of the plain world as which they stand: so all laws of the plain world
+/// hold of it.
+pub fn mounts_of_files_are_plain()
+    // Each dialogue that is had with files is had with the plain world as which they stand.
+    ensures { (talk : Dialogue (Outcome × Side)) → IsPlain talk }
+{}
+
+/// Requests that only read change nothing of the world, answered or refused.
+pub fn reading_requests_change_nothing()
+    // A look-up changes nothing.
+    ensures lookup { (side : Side) (dir : Handle) (name : List ℕ) → ChangesNothing (lookup_name side dir name) }
+    // To get attributes changes nothing.
+    ensures attributes { (side : Side) (number : ℕ) → ChangesNothing (get_attributes side number) }
+    // To open a file changes nothing of the world.
+    ensures open { (side : Side) (number : ℕ) → ChangesNothing (open_node side number) }
+    // To read bytes changes nothing.
+    ensures read { (number offset size : ℕ) → ChangesNothing (read_bytes number offset size) }
+{}
+
+/// A refused request has changed nothing: neither the world, nor what stands beside it.
+pub fn refused_requests_have_changed_nothing()
+    // A file that can't be opened is as often open as it was.
+    ensures open { (side : Side) (number : ℕ) → RefusedChangesNothing (open_node side number) side }
+    // A file that can't be released is as it was, and as often open.
+    ensures release { (side : Side) (number : ℕ) → RefusedChangesNothing (release side number) side }
+    // A refused unlink has hidden nothing and taken nothing away.
+    ensures unlink { (side : Side) (now : Time) (number : ℕ) (name : List ℕ)
+        → RefusedChangesNothing (unlink side now number name) side }
+    // A refused rmdir has taken nothing away.
+    ensures rmdir { (side : Side) (now : Time) (number : ℕ) (name : List ℕ)
+        → RefusedChangesNothing (rmdir side now number name) side }
+    // A refused write has written nothing.
+    ensures write { (side : Side) (now : Time) (number offset : ℕ) (bytes : List ℕ)
+        → length bytes < 2 ^ 32
+        → RefusedChangesNothing (write_bytes side now number offset bytes) side }
+    // A refused fallocate has made no file longer.
+    ensures fallocate { (side : Side) (now : Time) (number : ℕ) (end : Option ℕ) (mode : ℕ)
+        → RefusedChangesNothing (fallocate side now number end mode) side }
+{}
+
+/// A refused making has made nothing, except a node that has no number: that of a slot that was
+/// used 2 ^ 47 times.
+pub fn refused_makings_have_made_nothing()
+    // A file that is not opened.
+    ensures mknod { (side : Side) (now : Time) (header : Header) (mode : ℕ) (name : List ℕ)
+        → RefusedChanges IsUnnumbered (mknod side now header mode name) side }
+    // A directory.
+    ensures mkdir { (side : Side) (now : Time) (header : Header) (mode : ℕ) (name : List ℕ)
+        → RefusedChanges IsUnnumbered (mkdir side now header mode name) side }
+    // A file that is opened.
+    ensures create { (side : Side) (now : Time) (header : Header) (mode : ℕ) (name : List ℕ)
+        → RefusedChanges IsUnnumbered (create side now header mode name) side }
+{}
+
+/// A refused rename has changed nothing, with two exceptions. An empty directory at the new name has
+/// gone, where the move over it was refused then. Or an open file there went among the hidden ones,
+/// and came back.
+pub fn refused_renames_have_moved_nothing()
+    // Where the file can't be moved back the rename is no refusal: what stands beside the world
+    // tells that it is hidden.
+    ensures { (side : Side) (now : Time) (from : ℕ) (old : List ℕ) (to : ℕ) (new : List ℕ) (flags : ℕ)
+        → RefusedChanges RenameChanges (rename side now from old to new flags) side }
+{}
+
+/// A refused setting of attributes has changed at most mode and size of the node that it names.
+pub fn refused_settings_have_changed_their_node_at_most()
+    // All other nodes, all names and what stands beside the world are as they were.
+    ensures { (side : Side) (now : Time) (number : ℕ) (set : SetAttributes)
+        → RefusedChanges (IsPartlySet number) (set_attributes side now number set) side }
+{}
+
+/// Each open file without a name stands in the hidden directory under its number, and nothing else
+/// does.
+pub fn hidden_files_stay_hidden()
+    // A new mount has none, and an empty directory for them.
+    ensures new { (old new : Serial) (side : Side) (begun : Time) (slots mode : ℕ)
+        → IsNewMount old new side begun slots mode → AreHidden new side }
+    // An unlink hides a file that is open, and leaves the others.
+    ensures unlink { (side : Side) (now : Time) (number : ℕ) (name : List ℕ)
+        → KeepsHidden (unlink side now number name) side }
+    // An rmdir takes none of them away, and not their directory.
+    ensures rmdir { (side : Side) (now : Time) (number : ℕ) (name : List ℕ)
+        → KeepsHidden (rmdir side now number name) side }
+    // A file that is opened is not hidden by that.
+    ensures open { (side : Side) (number : ℕ) → KeepsHidden (open_node side number) side }
+    // A release of an open file takes it away where it has no name and was released last.
+    ensures release { (side : Side) (number : ℕ) → number < 2 ^ 64
+        → KeepsHidden (release side number) side }
+    // A write changes bytes alone.
+    ensures write { (side : Side) (now : Time) (number offset : ℕ) (bytes : List ℕ)
+        → length bytes < 2 ^ 32 → KeepsHidden (write_bytes side now number offset bytes) side }
+    // A fallocate makes a file longer at most.
+    ensures fallocate { (side : Side) (now : Time) (number : ℕ) (end : Option ℕ) (mode : ℕ)
+        → KeepsHidden (fallocate side now number end mode) side }
+    // Attributes that are set leave names and opens, also where the request is refused half way.
+    ensures set { (side : Side) (now : Time) (number : ℕ) (set : SetAttributes)
+        → KeepsHidden (set_attributes side now number set) side }
+    // A file that is made elsewhere is none of them.
+    ensures mknod { (side : Side) (now : Time) (header : Header) (mode : ℕ) (name : List ℕ)
+        → NamesAnother side header.node
+        → AnsweredKeepsHidden (mknod side now header mode name) side }
+    // A directory that is made elsewhere is none of them.
+    ensures mkdir { (side : Side) (now : Time) (header : Header) (mode : ℕ) (name : List ℕ)
+        → NamesAnother side header.node
+        → AnsweredKeepsHidden (mkdir side now header mode name) side }
+    // A file that is made elsewhere and opened is none of them.
+    ensures create { (side : Side) (now : Time) (header : Header) (mode : ℕ) (name : List ℕ)
+        → NamesAnother side header.node
+        → AnsweredKeepsHidden (create side now header mode name) side }
+{}
+
+/// A file that is open stays as it is until its last release, also where its name goes: by its
+/// handle it is read and written as before.
+pub fn open_files_outlive_their_names()
+    // An unlink leaves each open file as it is, also the one whose name it takes away.
+    ensures unlink { (side : Side) (now : Time) (number : ℕ) (name : List ℕ)
+        → LeavesOpenFiles (unlink side now number name) side }
+    // It leaves each node as often open as it was.
+    ensures unlink_opens { (side : Side) (now : Time) (number : ℕ) (name : List ℕ)
+        → LeavesOpens (unlink side now number name) side }
+    // An rmdir leaves each open file as it is.
+    ensures rmdir { (side : Side) (now : Time) (number : ℕ) (name : List ℕ)
+        → LeavesOpenFiles (rmdir side now number name) side }
+    // It leaves each node as often open as it was.
+    ensures rmdir_opens { (side : Side) (now : Time) (number : ℕ) (name : List ℕ)
+        → LeavesOpens (rmdir side now number name) side }
+    // An opening leaves each open file as it is.
+    ensures open { (side : Side) (number : ℕ) → LeavesOpenFiles (open_node side number) side }
+    // A release of an open file leaves each file that is still open as it is.
+    ensures release { (side : Side) (number : ℕ) → number < 2 ^ 64
+        → LeavesOpenFiles (release side number) side }
+    // A file that moves over an open one leaves that as it is, also where it stays hidden.
+    ensures replaced { (side : Side) (from : Handle) (old : List ℕ) (to : Handle) (new : List ℕ)
+        (there : Handle)
+        → LeavesReplaced (move_over_open side from old to new there) side to new there }
+{}

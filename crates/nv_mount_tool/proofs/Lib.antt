@@ -1,0 +1,4 @@
+pub mod CommandLine
+pub mod Serving
+pub mod Session
+pub mod Texts

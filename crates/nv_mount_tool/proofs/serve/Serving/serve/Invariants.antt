@@ -1,0 +1,8 @@
+use Rattle.nv_mount_tool.proofs.Session.{Session}
+use Rattle.nv_mount_tool.proofs.serve.Serving.serve.Given as goal
+
+-- what was read so far is served
+abbrev pub invariant-loop : goal.invariant-loop
+invariant-loop g l =
+    Session (g.S.Read.remaining l.initial.reader) (g.S.Read.remaining l.reader) l.initial.self l.self (g.W.Write.contents l.initial.writer)
+    (g.W.Write.contents l.writer)

@@ -1,0 +1,4 @@
+pub mod Asked
+pub mod CommandLine
+pub mod Serve
+pub mod Stream

@@ -1,0 +1,76 @@
+//! The program `novamount`: answers the requests of a kernel from a file system that is kept in memory.
+//!
+//! A shell opens `/dev/fuse`, mounts with that descriptor and runs the program with it as standard input and output. One
+//! read gives one request, and one write takes one reply. Requests in a file are cut where their lengths tell.
+#![tactic(auto)]
+
+mod command_line;
+mod serve;
+mod stream;
+mod world;
+
+use anyhow::{Result, bail};
+use command_line::Options;
+use nv_core::World;
+use nv_mount_answers::Time;
+use nv_mounted::Mount;
+use serve::{Serving, time_of};
+use std::alloc::Global;
+use std::env::Env;
+use std::process::ExitCode;
+use std::time::Clock;
+use std::{env, io};
+use world::OneActor;
+
+/// A new file system with the numbers of the command line, mounted.
+fn mounted(alloc: Global, options: Options, now: Time) -> Result<Mount<OneActor>> {
+    let Ok(world) = World::format(alloc, options.geometry()?) else {
+        bail!("there is no memory for so many '--blocks' and '--inodes'");
+    };
+    let Ok(mount) = Mount::new(alloc, OneActor::new(world), now) else {
+        bail!(
+            "there is no room for the root and a directory of the mount: '--blocks' or '--inodes' are too few"
+        );
+    };
+    Ok(mount)
+}
+
+/// Answers requests up to the end of the input, or until they are unmounted.
+fn attend<R: AllocGlobal + Clock + Input + Print + Eprint>(rt: &R, options: Options) -> Result<()> {
+    let alloc = rt.alloc();
+    let mount = mounted(alloc, options, time_of(rt, options.now))?;
+    let mut serving = Serving::new(alloc, mount)?;
+    let mut reader = rt.reader();
+    let mut writer = io::writer(rt);
+    serving.serve(rt, options.now, &mut reader, &mut writer)?;
+    if options.audit {
+        serving.mount().core().audit()?;
+        let (answered, dropped) = (serving.answered(), serving.dropped());
+        eprintln!(rt; "novamount: {answered} requests, {dropped} replies dropped, audit true")?;
+    }
+    Ok(())
+}
+
+fn run<R: AllocGlobal + Clock + Env + Input + Print + Eprint>(rt: &R) -> Result<bool> {
+    let alloc = rt.alloc();
+    let words: Vec<String> = env::args(rt)?.collect(alloc)?;
+    match Options::read(alloc, words.as_slice()) {
+        Ok(options) => attend(rt, options)?,
+        Err(error) => {
+            error.print(rt)?;
+            return Ok(!error.use_stderr());
+        }
+    }
+    Ok(true)
+}
+
+fn main(rt: HostRuntime) -> ExitCode {
+    match run(&rt) {
+        Ok(true) => ExitCode::from(0),
+        Ok(false) => ExitCode::from(2),
+        Err(error) => {
+            let _told = eprintln!(&rt; "novamount: {error:?}");
+            ExitCode::from(1)
+        }
+    }
+}

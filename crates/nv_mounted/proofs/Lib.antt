@@ -1,0 +1,9 @@
+pub mod Children
+pub mod Dialogues
+pub mod Each
+pub mod Keeps
+pub mod Listed
+pub mod Names
+pub mod Opened
+pub mod Places
+pub mod Steps

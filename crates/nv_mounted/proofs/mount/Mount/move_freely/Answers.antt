@@ -1,0 +1,27 @@
+use Rattle.std.proofs.Common.{refl}
+use Rattle.std.proofs.lemmas.Result.{err_from_is_err_and}
+use Rattle.nv_mounted.proofs.Dialogues.{goes_on, stops}
+use Rattle.nv_mounted.specs.Renames.{move_name}
+use Rattle.nv_mounted.proofs.mount.Mount.move_freely.Goals as goal
+
+pub returns-in_err-move_name : goal.returns-in_err-move_name
+returns-in_err-move_name g c =
+    let p = err_from_is_err_and c.from_residual.result c.from_residual.ensures.1 in
+    rw (p.1, p.2) (record {
+      had =
+          stops g.C.Core.Tells
+          (move_name c.args.from.now c.args.old.now c.args.to.now c.args.new.now)
+          _ _ _ _ c.in_err-move_name.ensures;
+      same = refl;
+    })
+
+pub returns : goal.returns
+returns g c =
+    record {
+      had =
+          goes_on g.C.Core.Tells
+          (move_name c.args.from.now c.args.old.now c.args.to.now c.args.new.now)
+          _ _ _ _ c.in_ok-move_name.field-0 _ c.in_ok-move_name.ensures
+          (rw c.touch_both.ensures refl, refl);
+      same = tt;
+    }

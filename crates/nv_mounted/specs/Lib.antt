@@ -1,0 +1,12 @@
+pub mod Answers
+pub mod Asks
+pub mod Contents
+pub mod Dialogues
+pub mod Entries
+pub mod Listings
+pub mod Makings
+pub mod Renames
+pub mod Sets
+pub mod Side
+pub mod Snapshots
+pub mod Talks
