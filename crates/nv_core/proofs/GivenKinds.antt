@@ -153,8 +153,6 @@ module _ (shared : Shared) (actor : ℕ) (told : ShownCall) (hand : Hand) (runni
         slot = own_slot picked.ino (inside (next.SnapshotOrCleaner (on.Release draining picked)) e);
         kept = has_it.kept;
         still = has_it.still;
-        chain = has_it.chain;
-        parts = has_it.parts;
         generation = has_it.generation;
       }
   maintain (on.LockCleaned log) e =
@@ -171,7 +169,6 @@ module _ (shared : Shared) (actor : ℕ) (told : ShownCall) (hand : Hand) (runni
         slot = own_slot plan.ino (inside (next.SnapshotOrCleaner (on.Unlink plan)) e);
         still = has_it.still;
         retired = has_it.retired;
-        chain = has_it.chain;
       }
   maintain (on.Compact plan) e =
       let has_it = given.snapshots (machine.Compact plan.ino) (ap next_of e) in
@@ -179,14 +176,13 @@ module _ (shared : Shared) (actor : ℕ) (told : ShownCall) (hand : Hand) (runni
         slot = own_slot plan.ino (inside (next.SnapshotOrCleaner (on.Compact plan)) e);
         still = has_it.still;
         retired = has_it.retired;
-        chain = has_it.chain;
       }
 
   -- ---- all kinds
 
   pub given_kind : (n : Next) → running.next ≡ n → FitsNext n running.request → Given n shared hand running
   given_kind next.Number e fits = ap (λ (h : machine.HandState). h.ino) (hand_at next.Number e).0
-  given_kind (next.Look place) e fits = tt
+  given_kind (next.Look place) e fits = (hand_at (next.Look place) e).0
   given_kind (next.Lock place) e fits = inside (next.Lock place) e
   given_kind next.Check e fits = given_check e fits
   given_kind (next.TakeBlocks asked) e fits = tt

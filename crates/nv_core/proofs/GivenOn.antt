@@ -17,20 +17,16 @@ use Rattle.nv_epoch.specs.SnapList.{pins_of}
 use Rattle.nv_machine.specs.World.{Compact, Pin, Release, Shared, Show, SnapshotOrCleanerStep, Unlink, Unpin, cell_at}
 use Rattle.nv_reader.specs.Cells.{NoneOut}
 
--- the part of a picked record is kept in its cell, which stands still; its blocks are the device's; and one that is
--- gone has not yet its last generation
+-- the part of a picked record is kept in its cell, which stands still; and one that is gone has not yet its last generation
 pub record HasPicked (g : GeometryNumbers) (s : Shared) (picked : Record) : Type 0 where
   pub kept : mark_named (cell_at s picked.ino) (name_of picked) ≡ Some Kept
   pub still : IsStill g.block (cell_at s picked.ino)
-  pub chain : AllByRecursion (λ (b : BlockValue). b.number < g.blocks) (cell_at s picked.ino).chain.blocks
-  pub parts : (n : ℕ) (b : BlockValue) → slice_index_or (cell_at s picked.ino).blocks n None ≡ Some b → b.number < g.blocks
   pub generation : is_gone (log_of (cell_at s picked.ino)) ≡ true → (cell_at s picked.ino).generation < NUMBER
 
--- a cell that is to be cleaned stands still, no part of it is killed and not yet retired, and its pages are the device's
+-- a cell that is to be cleaned stands still, and no part of it is killed and not yet retired
 pub record HasCleanable (g : GeometryNumbers) (s : Shared) (ino : ℕ) : Type 0 where
   pub still : IsStill g.block (cell_at s ino)
   pub retired : has_killed (cell_at s ino) ≡ false
-  pub chain : AllByRecursion (λ (b : BlockValue). b.number < g.blocks) (cell_at s ino).chain.blocks
 
 -- a snapshot that is to be pinned has fewer pins than it may have; one that is shown has all its pages; one that is to
 -- be unpinned has a pin

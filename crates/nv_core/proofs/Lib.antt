@@ -18,7 +18,6 @@ pub mod Cleanings
 pub mod Closes
 pub mod CommitTurns
 pub mod Consistent
-pub mod Copies
 pub mod Ends
 pub mod Enters
 pub mod Formats
@@ -36,7 +35,7 @@ pub mod GivenReady
 pub mod Gives
 pub mod GoingSeveral
 pub mod HeldPages
-pub mod Homes
+pub mod LentParts
 pub mod Insides
 pub mod Kept
 pub mod LastTurns
@@ -62,7 +61,9 @@ pub mod PublishPhase
 pub mod Publishes
 pub mod PutCells
 pub mod Readies
-pub mod Releases
+pub mod LentCells
+pub mod LentReads
+pub mod HeldRooms
 pub mod Replies
 pub mod RestStarts
 pub mod RestartedWorlds
@@ -97,9 +98,8 @@ pub mod SumsTo
 pub mod TakenBlocks
 pub mod Takes
 pub mod Takings
+pub mod TakenTurns
 pub mod Turns
-pub mod VisitTurns
-pub mod Visits
 pub mod WholeCalls
 pub mod WorldKept
 pub mod WorldSteps

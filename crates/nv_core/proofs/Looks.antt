@@ -1,4 +1,4 @@
--- A look at the names of a call.
+-- The call of a request that looks names up.
 use Rattle.std.proofs.Common.{◌≡◌, ℕ, zero, suc, ◌+◌, ◌<◌, ◌∙◌, if◌then◌else◌, Bool, true, false, List, [], ◌∷◌, length, Option, Some, None, ap, arith, refl, subst, sym}
 use Rattle.std.specs.Prelude.{MatchOption, Result, Err, is_some, option_map}
 use Rattle.nv_base.specs.declared.fault.Fault.{Fault}
@@ -22,74 +22,10 @@ use Rattle.nv_machine.specs.Kinds.{end_turn, look_turn}
 use Rattle.nv_machine.specs.Reads.{bytes_among, copies, slots_of}
 use Rattle.nv_machine.specs.World as machine
 use Rattle.nv_machine.specs.World.{HandState, Next, Running, Shared, cell_at, no_cell}
-use Rattle.nv_core.proofs.Visits.{no_node, node_here}
 use Rattle.nv_core.specs.GhostCalls.{IsChangeBy, IsRequestOf, IsLookAt, looking_at}
 use Rattle.nv_core.specs.declared.request.Request.{Request}
 use Rattle.nv_core.specs.declared.request.Request.TheVariants as request
 use Rattle.nv_core.specs.declared.request.PendingAnswer.{PendingAnswer}
-
--- ---- a look by the cell of its slot alone
-
--- bytes of blocks by a cell, if there is one
-abbrev bytes_in : Option CellValue → ℕ → List ℕ
-bytes_in None = λ number. []
-bytes_in (Some cell) = bytes_among cell.state.blocks
-
--- its cell, where there is such a slot
-abbrev pub IsCellOf : {A : Type 0} → Shared → ℕ → (A → CellValue) → Option A → Type 0
-IsCellOf s ino value cell = MatchOption cell (cell_at s ino ≡ no_cell) (λ c. cell_at s ino ≡ (value c).state)
-
-node_alone : {A : Type 0} (s : Shared) (dir : Handle) (value : A → CellValue) (cell : Option A) → IsCellOf s dir.ino value cell
-    → copies_by (bytes_in (option_map value cell)) (in_slot dir.ino (option_map value cell)) dir ≡ copies s dir
-node_alone s dir value None none = sym (ap (option_map (λ (p : PlainNode). p.node)) (no_node s dir none))
-node_alone s dir value (Some c) is = ap (option_map (λ (p : PlainNode). p.node)) (node_here s dir (value c) is)
-
--- what a look comes to
-abbrev outcome : (Handle → Option NodeCopy) → Call → List Handle → ℕ → LookupResult → Check × LookupResult
-outcome n c dirs place before = (look_tests place (look_refusal n c), seen_at dirs place (looked n c) before)
-
-alike_two : (n m : Handle → Option NodeCopy) (from : Handle) (old : List ℕ) (to : Handle) (new : List ℕ) (place : ℕ) (before : LookupResult)
-    (same : Bool) → (same ≡ true → from ≡ to) → let dirs = if same then from ∷ [] else from ∷ to ∷ [] in
-    place < length dirs → n (handle_at dirs place) ≡ m (handle_at dirs place)
-    → outcome n (call.Rename from old to new) dirs place before ≡ outcome m (call.Rename from old to new) dirs place before
-alike_two n m from old to new zero before true is few e =
-    subst (λ (other : Handle). outcome n (call.Rename from old other new) (from ∷ []) 0 before
-    ≡ outcome m (call.Rename from old other new) (from ∷ []) 0 before) (is refl)
-    (ap (λ (x : Option NodeCopy). outcome (λ (h : Handle). x) (call.Rename from old from new) (from ∷ []) 0 before) e)
-alike_two n m from old to new (suc place) before true is few e = absurd (omega (arith, few))
-alike_two n m from old to new zero before false is few e =
-    ap (λ (x : Option NodeCopy). outcome (λ (h : Handle). x) (call.Rename from old to new) (from ∷ to ∷ []) 0 before) e
-alike_two n m from old to new (suc zero) before false is few e =
-    ap (λ (x : Option NodeCopy). outcome (λ (h : Handle). x) (call.Rename from old to new) (from ∷ to ∷ []) 1 before) e
-alike_two n m from old to new (suc (suc place)) before false is few e = absurd (omega (arith, few))
-
--- it comes to the same over nodes that are alike under its directory
-alike : (n m : Handle → Option NodeCopy) (u : Update) (text : List ℕ) (place : ℕ) (before : LookupResult) → HasPlace place u
-    → n (handle_at (directories (call_of u text)) place) ≡ m (handle_at (directories (call_of u text)) place)
-    → outcome n (call_of u text) (directories (call_of u text)) place before
-    ≡ outcome m (call_of u text) (directories (call_of u text)) place before
-alike n m (update.Unlink dir name) text zero before few e =
-    ap (λ (x : Option NodeCopy). outcome (λ (h : Handle). x) (call.Unlink dir name) (dir ∷ []) 0 before) e
-alike n m (update.Unlink dir name) text (suc place) before few e = absurd (omega (arith, few))
-alike n m (update.Rmdir dir name) text zero before few e =
-    ap (λ (x : Option NodeCopy). outcome (λ (h : Handle). x) (call.Rmdir dir name) (dir ∷ []) 0 before) e
-alike n m (update.Rmdir dir name) text (suc place) before few e = absurd (omega (arith, few))
-alike n m (update.Rename from old to new) text place before few e =
-    alike_two n m from old to new place before (same_handle from to) (handle_is from to) few e
-alike n m other text place before few e = absurd (omega (arith, few))
-
--- by the cell of the directory's slot it comes to what it comes to over all nodes
-pub look_alone : {A : Type 0} (s : Shared) (u : Update) (text : List ℕ) (place : ℕ) (before : LookupResult) (dir : Handle)
-    (value : A → CellValue) (cell : Option A) (result : Result LookupResult Fault) → HasPlace place u
-    → dir ≡ handle_at (directories (call_of u text)) place → IsCellOf s dir.ino value cell
-    → ((bytes : ℕ → List ℕ) → IsLookOf (copies_by bytes (in_slot dir.ino (option_map value cell))) u text place before result)
-    → IsLookOf (copies s) u text place before result
-look_alone s u text place before dir value cell result few is there look =
-    let n = copies_by (bytes_in (option_map value cell)) (in_slot dir.ino (option_map value cell)) in
-    subst (λ (x : Check × LookupResult). IsLook x.0 x.1 result)
-    (alike n (copies s) u text place before few
-    (subst (λ (h : Handle). n h ≡ copies s h) is (node_alone s dir value cell there)))
-    (look (bytes_in (option_map value cell)))
 
 pub place_of : (j : Request) (plan : Update) (place : ℕ) → IsChangeBy j plan → IsLookAt place j → HasPlace place plan
 place_of (request.Change p text) plan place by at = subst (λ (x : Update). HasPlace place x) by at
@@ -110,19 +46,3 @@ call_by request.Taken owed c plan by is = elim by [ ]
 pub nobody : (owner : Option ℕ) (b : Bool) → b ≡ is_some owner → b ≡ false → owner ≡ None
 nobody None b same not = refl
 nobody (Some n) b same not = cc
-
-pub look_moves : (s : Shared) (h : HandState) (r : Running) (owner : Option ℕ) (tests : Check) (seen found : LookupResult) (place : ℕ)
-    (slots : List ℕ) (next : Next) → owner ≡ None → tests ≡ passes → found ≡ seen → slots ≡ slots_of s None found r.call
-    → next ≡ looking_at (place + 1) slots r.call
-    → look_turn owner tests seen place s h r ≡ machine.Moves s h (record r { looked = found; slots = slots; next = next })
-look_moves s h r owner tests seen found place slots next free pass same at goes =
-    ap (λ (o : Option ℕ). look_turn o tests seen place s h r) free
-    ∙ ap (λ (t : Check). look_turn None t seen place s h r) pass
-    ∙ ap (λ (l : LookupResult). look_turn None passes l place s h r) (sym same)
-    ∙ ap (λ (xs : List ℕ). machine.Moves s h (record r { looked = found; slots = xs; next = looking_at (place + 1) xs r.call })) (sym at)
-    ∙ ap (λ (n : Next). machine.Moves s h (record r { looked = found; slots = slots; next = n })) (sym goes)
-
-pub look_ends : (s : Shared) (h : HandState) (r : Running) (owner : Option ℕ) (tests : Check) (seen : LookupResult) (place : ℕ) (fault : Fault)
-    → owner ≡ None → tests ≡ Err fault → look_turn owner tests seen place s h r ≡ end_turn [] (machine.Refuses fault) s h r
-look_ends s h r owner tests seen place fault free refused =
-    ap (λ (o : Option ℕ). look_turn o tests seen place s h r) free ∙ ap (λ (t : Check). look_turn None t seen place s h r) refused

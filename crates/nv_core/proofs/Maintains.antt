@@ -39,7 +39,6 @@ use Rattle.nv_machine.proofs.OverEvents.{runs_inside}
 use Rattle.nv_machine.proofs.FiledLists.{count, count_append}
 use Rattle.nv_machine.proofs.FiledMarks.{bit_is, bit_none, is_killed_on}
 use Rattle.nv_machine.proofs.Generations.{inodes_early}
-use Rattle.nv_machine.proofs.HandNumbers.{chains_below, parts_below}
 use Rattle.nv_machine.proofs.Lists.{self}
 use Rattle.nv_machine.proofs.LocksHeld.{lent_cell}
 use Rattle.nv_machine.proofs.BlockNumbers.{lent_inside}
@@ -187,7 +186,6 @@ module _ (g : GeometryNumbers) (start : World) (records : List Record) (events :
     has_cleanable = record {
       still = still;
       retired = none_marked (cell ino).marks none_at;
-      chain = chains_below g w ino (all_numbers g start records events is_start);
     }
 
   -- ---- a picked record
@@ -235,8 +233,6 @@ module _ (g : GeometryNumbers) (start : World) (records : List Record) (events :
       kept = ap (option_and_then (λ n. slice_get (cell picked.ino).marks n)) number_is
           ∙ kept_there (cell picked.ino).marks of_pair.n recorded;
       still = still actor q is (Release draining picked) e picked.ino refl;
-      chain = chains_below g w picked.ino (all_numbers g start records events is_start);
-      parts = λ n b at. parts_below g w picked.ino n b (all_numbers g start records events is_start) at;
       generation = λ gone. inodes_early g start records events picked.ino is_start (gone_inode (cell picked.ino) gone);
     }
 

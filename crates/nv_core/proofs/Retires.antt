@@ -249,7 +249,7 @@ retires shared running old new book cells told i is appended lt published closed
     (hand_in c) (shown_commit c told running)) commit)
 
 -- the sizes of its blocks stay
-with_stays : (ino : ℕ) (mid : CellState) (hand : Hand) (g : GeometryNumbers) → IsHandOf g hand → IsHandOf g (calls.hand_with ino mid hand)
+pub with_stays : (ino : ℕ) (mid : CellState) (hand : Hand) (g : GeometryNumbers) → IsHandOf g hand → IsHandOf g (calls.hand_with ino mid hand)
 with_stays ino mid hand g is = go (is_erased mid) where
   go : (b : Bool) → IsHandOf g (if b then record hand { chain = mid.chain.blocks; ino = number_back ino mid hand.ino } else hand)
   go true = record { blocks = is.blocks; pages = is.pages }

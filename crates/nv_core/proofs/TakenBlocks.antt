@@ -10,7 +10,7 @@ use Rattle.nv_base.specs.Homes.{home_start}
 use Rattle.nv_base.specs.declared.geometry.GeometryNumbers.{GeometryNumbers}
 use Rattle.nv_machine.specs.World as machine
 use Rattle.nv_core.proofs.Gives.{lists_set}
-use Rattle.nv_core.proofs.Homes.{starts_rise}
+use Rattle.nv_steps.proofs.Homes.{starts_rise}
 use Rattle.nv_core.specs.Parts.{AreListsOf, IsListOf, IsOfDevice}
 use Rattle.nv_core.specs.Takings.{IsTaken}
 

@@ -1,121 +1,29 @@
 -- A taking from one list: what is in the hand after it, and the step that comes next.
-use Rattle.std.proofs.Common.{◌≡◌, ◌≢◌, ℕ, zero, suc, ◌+◌, ◌-◌, ◌<◌, ◌≤◌, ◌∙◌, ◌++◌, Bool, true, false, nat_lt, List, ◌∷◌, Option, Some, None, arith, ap, drop, length, min, refl, subst, sym, take, length-set, mod-lt, ◌%◌, []}
-use Rattle.std.proofs.lemmas.Bool.{ltb-true, ltb-false}
+use Rattle.std.proofs.Common.{◌≡◌, ℕ, ◌+◌, ◌-◌, ◌<◌, ◌≤◌, ◌∙◌, ◌++◌, Bool, true, List, arith, ap, drop, length, min, refl, subst, sym, take, length-set, mod-lt, ◌%◌}
 use Rattle.nv_alloc.specs.FreeList.{FreeBlocks}
 use Rattle.nv_alloc.specs.Queue.{QueueValue}
 use Rattle.nv_alloc.specs.declared.hand.Hand.{Hand}
 use Rattle.nv_base.specs.Limits.{IsWithinLimits}
-use Rattle.nv_base.specs.declared.fault.Fault.TheVariants.{NoSpace}
 use Rattle.nv_base.specs.declared.geometry.GeometryNumbers.{GeometryNumbers}
 use Rattle.nv_base.specs.declared.numbers.Handle.{Handle}
 use Rattle.nv_calls.specs.declared.looked.LookupResult.{LookupResult}
 use Rattle.nv_calls.specs.declared.update.Update.{Update}
-use Rattle.nv_machine.specs.Kinds.{again_turn, blocks_turn, drained_turn, end_turn, last_turn, less_list, over_turn, pages_turn, refuse, rest_turn, take_blocks_turn, take_log_pages_turn}
-use Rattle.nv_machine.specs.World as machine
 use Rattle.nv_machine.specs.World.{list_at}
+use Rattle.nv_steps.specs.OnList.{DataBlocks, LogPages, taking_on}
 use Rattle.nv_core.proofs.Takes.{fits_still, is_changed, over_all}
 use Rattle.nv_core.specs.Parts.{AreHome, AreListsOf}
-use Rattle.nv_core.specs.Rooms.{CanWantPages, HasItsBlocks, HasMade, HasRooms, HasRoomsAfter, HasTaken, IsChecked, IsHandOf, Takes, TakesBlocks, TakesIf, TakesPages, blocks_to_take, pages_to_take, takes}
-use Rattle.nv_core.specs.Shown.{ShownCall, hand_of, shared_of, shown, slots_in, turn_of}
+use Rattle.nv_core.specs.Rooms.{CanWantPages, HasItsBlocks, HasMade, HasRooms, HasTaken, IsChecked, IsHandOf, Takes, TakesBlocks, TakesIf, TakesPages, blocks_to_take, pages_to_take, takes}
+use Rattle.nv_core.specs.Shown.{ShownCall, next_of, shared_of, shown, slots_in}
 use Rattle.nv_core.specs.Takings.{IsTaken}
 use Rattle.nv_core.specs.GhostCalls.{IsChangeWith}
-use Rattle.nv_core.specs.declared.reservation.Reservation.{Reservation}
+use Rattle.nv_core.specs.declared.request.Request.{Request}
+use Rattle.nv_core.specs.declared.request.Request.TheVariants as request
 use Rattle.nv_core.specs.declared.reservation.Reservation.TheVariants as reserved
 use Rattle.nv_core.specs.declared.next.Next.{Next}
 use Rattle.nv_core.specs.declared.next.Next.TheVariants as next
 use Rattle.nv_core.specs.declared.running.Running.{Running}
 use Rattle.nv_core.specs.declared.shared.Shared.{Shared}
-use Rattle.nv_core.specs.declared.turn.Turn.{Turn}
-use Rattle.nv_core.specs.declared.turn.Turn.TheVariants as turn
 use Rattle.nv_core.proofs.TakenBlocks.{home_after, taken_count}
-
--- ---- what a turn comes to
-
-last_goes : (how : machine.Ending) (s : machine.Shared) (h : machine.HandState) (r : machine.Running) → last_turn how s h r ≢ machine.Waits
-last_goes machine.Answers s h r e = cc
-last_goes (machine.Refuses fault) s h r e = cc
-last_goes machine.BoundAnew s h r e = cc
-last_goes (machine.Cleans cleaned) s h r e = cc
-last_goes (machine.Drains draining) s h r e = go draining.left e where
-  go : (left : ℕ) → drained_turn left draining.released s h r ≢ machine.Waits
-  go zero e = cc
-  go (suc left) e = cc
-
-rest_goes : (cpu number : Option ℕ) (s : machine.Shared) (h : machine.HandState) (r : machine.Running)
-    → rest_turn cpu number s h r ≢ machine.Waits
-rest_goes (Some cpu) number s h r e = cc
-rest_goes None (Some ino) s h r e = cc
-rest_goes None None s h r e = last_goes r.ending s h r e
-
-again_goes : (rounds : ℕ) (s : machine.Shared) (h : machine.HandState) (r : machine.Running) → again_turn rounds s h r ≢ machine.Waits
-again_goes zero s h r e = cc
-again_goes (suc rounds) s h r e = cc
-
-over_goes : (how : machine.Ending) (s : machine.Shared) (h : machine.HandState) (r : machine.Running) → over_turn how s h r ≢ machine.Waits
-over_goes machine.Answers s h r e = rest_goes _ h.ino s h r e
-over_goes (machine.Refuses fault) s h r e = rest_goes _ h.ino s h r e
-over_goes (machine.Drains draining) s h r e = rest_goes _ h.ino s h r e
-over_goes (machine.Cleans cleaned) s h r e = rest_goes _ h.ino s h r e
-over_goes machine.BoundAnew s h r e = again_goes r.rounds s h r e
-
--- a call that turns to its last steps does not wait
-pub end_goes : (slots : List ℕ) (how : machine.Ending) (s : machine.Shared) (h : machine.HandState) (r : machine.Running)
-    → end_turn slots how s h r ≢ machine.Waits
-end_goes [] how s h r e = over_goes how s h (record r { ending = how }) e
-end_goes (slot ∷ slots) how s h r e = cc
-
-pub blocks_more : (left asked block : ℕ) (s : machine.Shared) (h : machine.HandState) (r : machine.Running) → (left ≡ 0 → ⊥)
-    → blocks_turn left true asked block s h r ≡ machine.Moves s h (record r { wanted = left; next = machine.TakeBlocks (asked + 1) })
-blocks_more zero asked block s h r some = absurd (some refl)
-blocks_more (suc n) asked block s h r some = refl
-
-pub blocks_none : (left asked block : ℕ) (s : machine.Shared) (h : machine.HandState) (r : machine.Running) → (left ≡ 0 → ⊥)
-    → blocks_turn left false asked block s h r ≡ refuse NoSpace s h r
-blocks_none zero asked block s h r some = absurd (some refl)
-blocks_none (suc n) asked block s h r some = refl
-
-pub pages_more : (left asked : ℕ) (s : machine.Shared) (h : machine.HandState) (r : machine.Running) → (left ≡ 0 → ⊥)
-    → pages_turn left true asked s h r ≡ machine.Moves s h (record r { wanted = left; next = machine.TakeLogPages (asked + 1) })
-pages_more zero asked s h r some = absurd (some refl)
-pages_more (suc n) asked s h r some = refl
-
-pub pages_none : (left asked : ℕ) (s : machine.Shared) (h : machine.HandState) (r : machine.Running) → (left ≡ 0 → ⊥)
-    → pages_turn left false asked s h r ≡ refuse NoSpace s h r
-pages_none zero asked s h r some = absurd (some refl)
-pages_none (suc n) asked s h r some = refl
-
--- where some blocks are still wanted: the call goes on to the next list, or is refused
-pub asked_turn : (told : ShownCall) (result : Turn) (s : machine.Shared) (h : machine.HandState) (running new goes : Running) (asked n many : ℕ)
-    (f : Bool → machine.Turn) → n ≡ many → (asked + 1 < n → (result ≡ turn.Moves) × (new ≡ goes))
-    → (n ≤ asked + 1 → refuse NoSpace s h (shown told running) ≡ turn_of result s h (shown told new))
-    → f true ≡ machine.Moves s h (shown told goes) → f false ≡ refuse NoSpace s h (shown told running)
-    → f (nat_lt (asked + 1) many) ≡ turn_of result s h (shown told new)
-asked_turn told result s h running new goes asked n many f same more none here there = go (nat_lt (asked + 1) many) refl where
-  go : (b : Bool) → nat_lt (asked + 1) many ≡ b → f b ≡ turn_of result s h (shown told new)
-  go true q =
-      let is = more (omega (arith, same, ltb-true (asked + 1) many q)) in
-      here ∙ sym (ap (λ (t : Turn). turn_of t s h (shown told new)) is.0 ∙ ap (λ (r : Running). machine.Moves s h (shown told r)) is.1)
-  go false q = there ∙ none (omega (arith, same, ltb-false (asked + 1) many q))
-
-pub asked_rooms : (result : Turn) (shared : Shared) (reserved : Reservation) (new goes : Running) (asked n : ℕ)
-    → (asked + 1 < n → (result ≡ turn.Moves) × (new ≡ goes)) → (n ≤ asked + 1 → HasRoomsAfter result shared reserved new)
-    → (asked + 1 < n → HasRooms shared reserved goes) → HasRoomsAfter result shared reserved new
-asked_rooms result shared reserved new goes asked n more none rooms = go (nat_lt (asked + 1) n) refl where
-  go : (b : Bool) → nat_lt (asked + 1) n ≡ b → HasRoomsAfter result shared reserved new
-  go true q =
-      let lt = ltb-true (asked + 1) n q in
-      let is = more lt in
-      subst (λ (t : Turn). HasRoomsAfter t shared reserved new) (sym is.0)
-      (subst (λ (r : Running). HasRooms shared reserved r) (sym is.1) (rooms lt))
-  go false q = none (ltb-false (asked + 1) n q)
-
--- ---- the shared parts and the hand that the machine has after it
-
-pub less_shared : (old new : Shared) (below n cpu : ℕ) (before after : QueueValue) → new ≡ record old { lists = new.lists }
-    → IsTaken below n cpu (list_at (shared_of old) cpu) old.lists.items new.lists.items before after
-    → shared_of new ≡ less_list cpu n (shared_of old)
-less_shared old new below n cpu before after rest is =
-    ap shared_of rest ∙ ap (λ (l : List FreeBlocks). record (shared_of old) { lists = l }) is.lists
 
 -- ---- what the call has found stays
 
@@ -239,45 +147,38 @@ module _ (old new : Shared) (slots : List ℕ) (hand : Hand) (looked : LookupRes
       ),
     )
 
--- ---- the machine's turn, over what is there after it
+-- ---- the call before it
 
-pub less_wanted : (n len left : ℕ) → left ≡ n - min n len → n - len ≡ left
-less_wanted n len left q = omega (arith, q)
+pub before_blocks : (told : ShownCall) (running : Running) (asked : ℕ) → running.next ≡ next.TakeBlocks asked
+    → shown told running ≡ taking_on DataBlocks asked running.wanted (shown told running)
+before_blocks told running asked at = ap (λ (n : Next). record (shown told running) { next = next_of n }) at
 
-module _ (told : ShownCall) (old new : Shared) (hand : Hand) (running : Running) (queue : QueueValue) (below cpu asked left : ℕ)
-    (rest : new ≡ record old { lists = new.lists }) (q : left ≡ running.wanted - min running.wanted (length (list_at
-    (shared_of old) cpu).blocks)) where
-  abbrev s : machine.Shared
-  s = shared_of old
+pub before_pages : (told : ShownCall) (running : Running) (asked : ℕ) → running.next ≡ next.TakeLogPages asked
+    → shown told running ≡ taking_on LogPages asked running.wanted (shown told running)
+before_pages told running asked at = ap (λ (n : Next). record (shown told running) { next = next_of n }) at
 
-  abbrev r : machine.Running
-  r = shown told running
+-- a call that has passed its check holds a slot
+holds_one : (P : Update → Type 0) (n : ℕ) (j : Request) → ((u : Update) → P u → 0 < n) → IsChangeWith P j → 0 < n
+holds_one P n (request.Change plan text) some has = some plan has
+holds_one P n (request.Visit visit) some has = elim has [ ]
+holds_one P n (request.SnapshotOrCleaner on) some has = elim has [ ]
+holds_one P n request.Taken some has = elim has [ ]
 
-  abbrev more : Bool
-  more = nat_lt (asked + 1) (length old.lists.items)
+pub holds_blocks : (shared : Shared) (hand : Hand) (running : Running) (asked : ℕ) → running.next ≡ next.TakeBlocks asked
+    → HasRooms shared (reserved.Hand hand) running → 0 < length (slots_in running.slots)
+holds_blocks shared hand running asked at has =
+    holds_one (λ (u : Update). HasMade shared (slots_in running.slots) hand running.made u
+    × Takes (next.TakeBlocks asked) shared (slots_in running.slots) hand running.wanted running.looked u)
+    (length (slots_in running.slots)) running.request (λ u h. h.1.0.some)
+    (takes_at shared hand running (next.TakeBlocks asked) at refl has)
 
-  pub blocks_became : (block : ℕ)
-      → IsTaken below running.wanted cpu (list_at s cpu) old.lists.items new.lists.items hand.«data» queue
-      → take_blocks_turn cpu asked block s (hand_of hand) r
-      ≡ blocks_turn left more asked block (shared_of new) (hand_of (record hand { «data» = queue })) r
-  blocks_became block is =
-      let h = record (hand_of hand) { blocks = hand.«data».blocks ++ take running.wanted (list_at s cpu).blocks } in
-      ap (λ (n : ℕ). blocks_turn n more asked block (less_list cpu running.wanted s) h r)
-      (less_wanted running.wanted (length (list_at s cpu).blocks) left q)
-      ∙ ap (λ (t : machine.Shared). blocks_turn left more asked block t h r)
-      (sym (less_shared old new below running.wanted cpu hand.«data» queue rest is))
-      ∙ ap (λ (v : QueueValue). blocks_turn left more asked block (shared_of new) (hand_of (record hand { «data» = v })) r) (sym is.queue)
-
-  pub pages_became : IsTaken below running.wanted cpu (list_at s cpu) old.lists.items new.lists.items hand.pages queue
-      → take_log_pages_turn cpu asked s (hand_of hand) r
-      ≡ pages_turn left more asked (shared_of new) (hand_of (record hand { pages = queue })) r
-  pages_became is =
-      let h = record (hand_of hand) { pages = hand.pages.blocks ++ take running.wanted (list_at s cpu).blocks } in
-      ap (λ (n : ℕ). pages_turn n more asked (less_list cpu running.wanted s) h r)
-      (less_wanted running.wanted (length (list_at s cpu).blocks) left q)
-      ∙ ap (λ (t : machine.Shared). pages_turn left more asked t h r)
-      (sym (less_shared old new below running.wanted cpu hand.pages queue rest is))
-      ∙ ap (λ (v : QueueValue). pages_turn left more asked (shared_of new) (hand_of (record hand { pages = v })) r) (sym is.queue)
+pub holds_pages : (shared : Shared) (hand : Hand) (running : Running) (asked : ℕ) → running.next ≡ next.TakeLogPages asked
+    → HasRooms shared (reserved.Hand hand) running → 0 < length (slots_in running.slots)
+holds_pages shared hand running asked at has =
+    holds_one (λ (u : Update). HasMade shared (slots_in running.slots) hand running.made u
+    × Takes (next.TakeLogPages asked) shared (slots_in running.slots) hand running.wanted running.looked u)
+    (length (slots_in running.slots)) running.request (λ u h. h.1.0.some)
+    (takes_at shared hand running (next.TakeLogPages asked) at refl has)
 
 -- ---- what holds of the call after it
 

@@ -3,7 +3,6 @@
 use Rattle.std.specs.Prelude.{◌≡◌, ℕ, ◌+◌, ◌<◌, ◌≤◌, ◌==◌, Bool, true, false, length}
 use Rattle.std.specs.List.{AllByRecursion}
 use Rattle.nv_alloc.specs.Block.{BlockValue}
-use Rattle.nv_alloc.specs.Queue.{QueueValue}
 use Rattle.nv_alloc.specs.declared.hand.Hand.{Hand}
 use Rattle.nv_calls.specs.Prepared.{IsStill}
 use Rattle.nv_cell.specs.Cell.{CellState}
@@ -12,8 +11,6 @@ use Rattle.nv_clean.specs.Plans.{unlinkable_of, wanted_of}
 use Rattle.nv_machine.specs.World.{cell_at}
 use Rattle.nv_core.specs.Shown.{shared_of}
 use Rattle.nv_core.specs.GhostCalls.{IsLookAt, IsSnapshotOrCleaner}
-use Rattle.nv_core.specs.declared.kinds.plan_cleaning.Choice.{Choice}
-use Rattle.nv_core.specs.declared.kinds.plan_cleaning.Choice.TheVariants as choice
 use Rattle.nv_core.specs.declared.next.Ending.TheVariants as ending
 use Rattle.nv_core.specs.declared.next.CompactPlan.{CompactPlan}
 use Rattle.nv_core.specs.declared.next.FreshPages.{FreshPages}
@@ -27,30 +24,6 @@ pub record IsMaintaining (running : Running) : Type 0 where
   pub request : IsSnapshotOrCleaner running.request
   -- its names are never bound anew, since it looks none up
   pub overtaken : running.ending ≡ ending.BoundAnew → IsLookAt 0 running.request
-
--- ---- what the planning chose
-
--- whether entries are to move
-abbrev pub compacts : Choice → Bool
-compacts (choice.Unlinks plan) = false
-compacts (choice.Compacts plan) = true
-
--- the planning chose the walk of this cell
-abbrev pub IsFoundIn : CellState → Choice → Type 0
-IsFoundIn cell (choice.Unlinks plan) = plan ≡ unlinkable_of cell
-IsFoundIn cell (choice.Compacts plan) = plan ≡ wanted_of cell
-
--- there is room for the log pages that move, if any entry goes
-abbrev pub HasRoomFor : QueueValue → Choice → Type 0
-HasRoomFor queue (choice.Unlinks plan) = plan.pages ≤ queue.room
-HasRoomFor queue (choice.Compacts plan) = (plan.dropped == 0) ≡ false → plan.pages ≤ queue.room
-
--- a queue has lost no room
-pub record IsNoSmaller (old new : QueueValue) : Type 0 where
-  -- its blocks are the same
-  pub same : new ≡ record old { room = new.room }
-  -- it has room for as many more blocks, or for more
-  pub room : old.room ≤ new.room
 
 -- ---- the steps behind it
 
@@ -94,6 +67,3 @@ pub record CanClean (shared : Shared) (ino : ℕ) : Type 0 where
   pub still : IsStill shared.geometry.numbers.block (cell_at (shared_of shared) ino)
   -- no part of it is killed and not yet retired
   pub retired : has_killed (cell_at (shared_of shared) ino) ≡ false
-  -- its log pages are of the device
-  pub chain : AllByRecursion (λ (b : BlockValue). b.number < shared.geometry.numbers.blocks)
-      (cell_at (shared_of shared) ino).chain.blocks

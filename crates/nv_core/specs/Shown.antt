@@ -1,6 +1,7 @@
 -- What the parts of a world are in the machine of steps, whatever room they have.
 pub use Rattle.nv_calls.specs.SlotList.{slots_in}
 pub use Rattle.nv_steps.specs.Hands.{hand_of, hand_with}
+pub use Rattle.nv_steps.specs.Planning.{manner_of}
 use Rattle.std.specs.Prelude.{ℕ, List, [], drop, map, take}
 use Rattle.nv_base.specs.declared.numbers.Handle.{Handle}
 use Rattle.nv_calls.specs.declared.answer.Answer.{Answer}
@@ -25,8 +26,6 @@ use Rattle.nv_core.specs.declared.next.Ending.{Ending}
 use Rattle.nv_core.specs.declared.next.Ending.TheVariants as ending
 use Rattle.nv_core.specs.declared.next.Next.{Next}
 use Rattle.nv_core.specs.declared.next.Next.TheVariants as next
-use Rattle.nv_core.specs.declared.next.Manner.{Manner}
-use Rattle.nv_core.specs.declared.next.Manner.TheVariants as manner
 use Rattle.nv_core.specs.declared.next.SnapshotOrCleanerStep.{SnapshotOrCleanerStep}
 use Rattle.nv_core.specs.declared.next.SnapshotOrCleanerStep.TheVariants as on
 use Rattle.nv_core.specs.declared.running.Running.{Running}
@@ -73,12 +72,6 @@ pub record ShownCall : Type 0 where
 -- how far a drain is, in the machine's words
 abbrev pub draining_of : Draining → machine.Draining
 draining_of draining = record { released = draining.released; left = draining.left }
-
--- how a cleaner cleans, in the machine's words
-abbrev pub manner_of : Manner → machine.Manner
-manner_of manner.Fast = machine.Fast
-manner_of manner.Thorough = machine.Thorough
-manner_of manner.Auto = machine.Auto
 
 -- a step on snapshots, or of a cleaner, in the machine's words
 abbrev pub step_on : SnapshotOrCleanerStep → machine.SnapshotOrCleanerStep

@@ -113,12 +113,6 @@ pub record CanRelease (shared : Shared) (picked : Record) : Type 0 where
   pub kept : mark_named (cell_at (shared_of shared) picked.ino) (name_of picked) ≡ Some Kept
   -- the cell has blocks of the device's size, and no entry past the tail
   pub still : IsStill shared.geometry.numbers.block (cell_at (shared_of shared) picked.ino)
-  -- its log pages are of the device
-  pub chain : AllByRecursion (λ (b : BlockValue). b.number < shared.geometry.numbers.blocks)
-      (cell_at (shared_of shared) picked.ino).chain.blocks
-  -- the blocks of its parts are of the device
-  pub parts : (n : ℕ) (b : BlockValue) → slice_index_or (cell_at (shared_of shared) picked.ino).blocks n None ≡ Some b
-      → b.number < shared.geometry.numbers.blocks
   -- where its inode is gone, the slot is not of the last generation
   pub generation : is_gone (log_of (cell_at (shared_of shared) picked.ino)) ≡ true
       → (cell_at (shared_of shared) picked.ino).generation < NUMBER
@@ -139,6 +133,7 @@ GivenOn other shared = Unit {0}
 -- what the next step of a call is given that has its hand alone
 abbrev pub Given : Next → Shared → Hand → Running → Type 0
 Given next.Number shared hand running = hand.ino ≡ None
+Given (next.Look place) shared hand running = hand_of hand ≡ empty_hand
 Given (next.Lock place) shared hand running = place < length (slots_in running.slots)
 Given next.Check shared hand running = CanBeChecked shared hand running
 Given next.Ready shared hand running = CanGetReady shared running

@@ -1,11 +1,13 @@
 //! How a call goes on, and how it ends.
 
-ghost use Rattle.std.specs.Prelude.{◌≡◌, ◌≢◌, None};
+ghost use Rattle.std.specs.Prelude.{◌≡◌, ◌≢◌};
 ghost use Rattle.nv_machine.specs.Kinds.{again_turn, blocks_in, drained_turn, end_turn, last_turn, over_turn, refuse, rest_turn, result_by};
 ghost use Rattle.nv_machine.specs.Reads.{home_from};
 ghost use Rattle.nv_machine.specs.World as machine;
+ghost use Rattle.nv_steps.specs.OnList.{HasNumber, home_left};
+ghost use Rattle.nv_steps.specs.OnCell.{once_ending};
 ghost use Rattle.nv_core.specs.Parts.{AreHome, IsOfDevice};
-ghost use Rattle.nv_core.specs.Rooms.{CanDrain, CanEnd, HasRoomsAfter, IsHandOf, IsNoDrain};
+ghost use Rattle.nv_core.specs.Rooms.{CanDrain, CanEnd, HasRooms, HasRoomsAfter, IsHandOf, IsNoDrain};
 ghost use Rattle.nv_core.specs.Shown.{ShownCall, ending_of, hand_of, shared_of, shown, slots_in, turn_of};
 ghost use Rattle.nv_core.specs.GhostCalls.{KeepsRequest, OwesAt};
 
@@ -18,6 +20,7 @@ use nv_alloc::Hand;
 use nv_base::Fault;
 use nv_calls::{Answer, LockedSlots};
 use nv_clean::Cleaned;
+use nv_steps::{LeftInHand, left_in_hand};
 
 /// What the call is answered at its last step.
 pub(crate) fn result_of(running: &Running) -> Result<Answer, Fault>
@@ -61,34 +64,32 @@ pub(crate) fn give_back(shared: &Shared, hand: &Hand, running: &mut Running) -> 
     ensures goes { result ≢ Turn.Waits }
     ensures rooms { HasRoomsAfter result shared.now (Reservation.Hand hand.now) running.new }
 {
-    match hand.first_home_cpu(&shared.geometry) {
-        Some(cpu) => {
-            running.next = Next::Give(cpu);
-            Turn::Moves
-        }
-        None => give_number(hand, running),
-    }
+    give_left(left_in_hand(hand, &shared.geometry), running)
 }
 
-/// All blocks are at home: a number goes back. Where there is none, the step replies.
-fn give_number(hand: &Hand, running: &mut Running) -> Turn
-    ensures turn { (told : ShownCall) (s : machine.Shared) → OwesAt running.old.ending running.old told
-        → let h = hand_of hand.now in rest_turn None h.ino s h (shown told running.old)
+/// What is left in the hand goes back: blocks, and then a number. Where nothing is, the step replies.
+pub(crate) fn give_left(left: LeftInHand, running: &mut Running) -> Turn
+    ensures turn { (told : ShownCall) (s : machine.Shared) (h : machine.HandState)
+        → OwesAt running.old.ending running.old told → HasNumber left h.ino
+        → rest_turn (home_left left) h.ino s h (shown told running.old)
         ≡ turn_of result s h (shown told running.new) }
     ensures request { KeepsRequest running.old running.new }
     ensures slots { IsNoDrain running.old.ending → running.new.slots ≡ running.old.slots }
     ensures goes { result ≢ Turn.Waits }
-    ensures rooms { (s : Shared) → CanEnd running.old running.old.ending
-        → IsHandOf s.geometry.numbers hand.now
-        → CanDrain running.old.ending running.old.request hand.now
-        → HasRoomsAfter result s (Reservation.Hand hand.now) running.new }
+    ensures rooms { (s : Shared) (hand : Hand) → CanEnd running.old running.old.ending
+        → IsHandOf s.geometry.numbers hand → CanDrain running.old.ending running.old.request hand
+        → HasRoomsAfter result s (Reservation.Hand hand) running.new }
 {
-    match hand.ino() {
-        Some(_) => {
+    match left {
+        LeftInHand::Blocks(cpu) => {
+            running.next = Next::Give(cpu);
+            Turn::Moves
+        }
+        LeftInHand::Number => {
             running.next = Next::ReturnNumber;
             Turn::Moves
         }
-        None => last(running),
+        LeftInHand::Nothing => last(running),
     }
 }
 
@@ -203,12 +204,26 @@ pub(crate) fn end(shared: &Shared, hand: &Hand, running: &mut Running, ending: E
     ensures goes { result ≢ Turn.Waits }
     ensures rooms { HasRoomsAfter result shared.now (Reservation.Hand hand.now) running.new }
 {
-    running.ending = ending;
     if running.slots.len() > 0 {
-        running.next = Next::Unlock(0);
+        unlock_first(running, ending);
         return Turn::Moves;
     }
+    running.ending = ending;
     end_unlocked(shared, hand, running)
+}
+
+/// A call that holds something turns to its last steps: it unlocks next.
+pub(crate) fn unlock_first(running: &mut Running, ending: Ending)
+    ensures ends { (told : ShownCall) → shown told running.new
+        ≡ once_ending (ending_of ending) (shown told running.old) }
+    ensures request { KeepsRequest running.old running.new }
+    ensures slots { running.new.slots ≡ running.old.slots }
+    ensures rooms { (s : Shared) (hand : Hand) → CanEnd running.old ending
+        → IsHandOf s.geometry.numbers hand → CanDrain ending running.old.request hand
+        → HasRooms s (Reservation.Hand hand) running.new }
+{
+    running.ending = ending;
+    running.next = Next::Unlock(0);
 }
 
 /// The call is refused, and turns to its last steps.

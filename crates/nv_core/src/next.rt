@@ -5,6 +5,7 @@ use nv_book::Record;
 use nv_clean::{Cleaned, Unlinkable, Wanted};
 use nv_entry::Tree;
 use nv_reader::Showing;
+use nv_steps::Manner;
 
 /// The step of a call that comes next, while its hand is with the actor alone. In a loop with its place: of a
 /// directory, of a slot that the call locks, of how many lists were asked.
@@ -31,14 +32,6 @@ pub(crate) enum Next {
 pub(crate) struct Draining {
     pub(crate) released: u64,
     pub(crate) left: u64,
-}
-
-/// How a cleaner cleans a log: by whole pages, entry by entry, or as the walk of the log finds to be better.
-#[derive(Clone, Copy, Debug, PartialEq, Eq)]
-pub(crate) enum Manner {
-    Fast,
-    Thorough,
-    Auto,
 }
 
 /// Which log is to be cleaned, and how.

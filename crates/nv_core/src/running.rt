@@ -9,7 +9,7 @@ ghost use Rattle.nv_core.specs.Shown.{ShownCall, draining_of, manner_of, next_of
 ghost use Rattle.nv_calls.specs.Updates.{call_of};
 ghost use Rattle.nv_core.specs.GhostCalls.{IsAtStart, IsChangeBy, IsRequestOf, IsShownCallOf, is_change, looking_at, starting};
 
-use crate::next::{Draining, Ending, Manner, Next, SnapshotOrCleanerStep, ToClean};
+use crate::next::{Draining, Ending, Next, SnapshotOrCleanerStep, ToClean};
 use crate::request::{PendingAnswer, Request, request_of};
 use crate::reservation::Reservation;
 use crate::shared::Shared;
@@ -19,6 +19,7 @@ use nv_base::{Gen, Handle, Ino, limits};
 use nv_calls::{
     Call, LockedSlots, LookupResult, SnapshotOrCleanerCall, Update, look_count, slots_of,
 };
+use nv_steps::Manner;
 use std::alloc::Global;
 
 /// How many more rounds of looks a call may make after its first.

@@ -1,6 +1,6 @@
 //! What actors share.
 
-ghost use Rattle.std.specs.Prelude.{◌≡◌, ◌<◌, ◌%◌, MatchOption, is_some, length};
+ghost use Rattle.std.specs.Prelude.{◌≡◌, ◌<◌, ◌≤◌, ◌%◌, MatchOption, is_some, length};
 ghost use Rattle.nv_machine.specs.World.{cell_at, no_cell, owner_at, with_owner};
 ghost use Rattle.nv_core.specs.Shown.{shared_of};
 
@@ -68,8 +68,10 @@ impl Shared {
 
     /// The cell of a slot that is there.
     pub(crate) fn cell(&self, ino: Ino) -> Option<&InodeCell>
-        ensures { MatchOption result (cell_at (shared_of self.now) ino ≡ no_cell)
+        ensures cell { MatchOption result (cell_at (shared_of self.now) ino ≡ no_cell)
             (λ cell. cell_at (shared_of self.now) ino ≡ cell.now.state) }
+        ensures range { MatchOption result (length self.now.cells.items ≤ ino)
+            (λ cell. ino < length self.now.cells.items) }
     {
         self.cells.get(ino.number() as usize)
     }

@@ -5,3 +5,12 @@ pub mod SnapshotTests
 pub mod BookTurns
 pub mod OneTurn
 pub mod OtherStates
+pub mod LastTurns
+pub mod ListTurns
+pub mod Homes
+pub mod GiveTurns
+pub mod PlanTurns
+pub mod Visits
+pub mod Looks
+pub mod Copies
+pub mod VisitTurns

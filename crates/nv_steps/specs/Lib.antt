@@ -5,3 +5,9 @@ pub mod Runs
 pub mod Lent
 pub mod Refused
 pub mod OnBook
+pub mod LastSteps
+pub mod OnList
+pub mod OnPool
+pub mod OnCell
+pub mod Planning
+pub mod Reading

@@ -1,23 +1,22 @@
 //! A cleaner moves the entries that stay to fresh log pages.
 
-ghost use Rattle.std.specs.Prelude.{◌≡◌, ◌≢◌, ◌∷◌, ℕ, []};
+ghost use Rattle.std.specs.Prelude.{◌≡◌, ◌≢◌, ◌∷◌, ℕ, [], length};
 ghost use Rattle.nv_machine.specs.Cleaning.{compact_turn};
 ghost use Rattle.nv_core.specs.Cleaning.{CanClean, CanCompact, IsMaintaining};
 ghost use Rattle.nv_core.specs.Frames.{LeavesRest};
 ghost use Rattle.nv_core.specs.Parts.{AreHome};
 ghost use Rattle.nv_core.specs.Rooms.{HasRoomsAfter, IsHandOf};
-ghost use Rattle.nv_core.specs.Shown.{ShownCall, hand_of, shared_of, shown, turn_of};
+ghost use Rattle.nv_core.specs.Shown.{ShownCall, hand_of, shared_of, shown, slots_in, turn_of};
 ghost use Rattle.nv_core.specs.GhostCalls.{KeepsRequest};
 ghost use Rattle.nv_machine.specs.Hands.{HasPagesAlone};
 
-use crate::ending::end;
+use crate::ending::unlock_first;
 use crate::next::{CompactPlan, Ending};
 use crate::reservation::Reservation;
 use crate::running::Running;
 use crate::shared::Shared;
 use crate::turn::Turn;
 use nv_alloc::Hand;
-use nv_clean::thorough_on;
 
 /// Moves the entries that the planning found to stay, and takes the old pages into the hand. The call turns to its last
 /// steps.
@@ -27,7 +26,9 @@ pub(crate) fn compact(
     running: &mut Running,
     plan: CompactPlan,
 ) -> Turn
+    requires slots { slots_in running.old.slots ≡ plan.ino ∷ [] }
     requires home { AreHome shared.old }
+    requires wide { length shared.old.owners.items ≡ length shared.old.cells.items }
     requires sized { IsHandOf shared.old.geometry.numbers hand.old }
     requires call { IsMaintaining running.old }
     requires can { CanClean shared.old plan.ino }
@@ -45,6 +46,7 @@ pub(crate) fn compact(
     ensures rest { (actor : ℕ) → LeavesRest actor (plan.ino ∷ []) shared.old shared.new }
 {
     let CompactPlan { ino, walk } = plan;
-    let cleaned = thorough_on(&mut shared.cells[ino.number() as usize], walk, hand);
-    end(shared, hand, running, Ending::Cleans(cleaned))
+    let cleaned = nv_steps::compact(&mut shared.cells[ino.number() as usize], hand, walk);
+    unlock_first(running, Ending::Cleans(cleaned));
+    Turn::Moves
 }

@@ -1,17 +1,17 @@
 //! A cleaner takes the log pages that the entries fill which stay.
 
-ghost use Rattle.std.specs.Prelude.{◌≡◌, ◌≢◌, ◌+◌, ◌-◌, ◌<◌, ◌^◌, length, nat_lt};
+ghost use Rattle.std.specs.Prelude.{◌≡◌, ◌≢◌, ◌+◌, ◌-◌, ◌<◌, ◌^◌, length};
 ghost use Rattle.nv_base.specs.Limits.{IsWithinLimits};
-ghost use Rattle.nv_machine.specs.Cleaning.{fresh_turn, take_fresh_turn};
+ghost use Rattle.nv_machine.specs.Cleaning.{take_fresh_turn};
 ghost use Rattle.nv_machine.specs.Kinds.{asked_list};
 ghost use Rattle.nv_core.specs.Cleaning.{IsMaintaining, TakesFresh};
 ghost use Rattle.nv_core.specs.Parts.{AreHome, IsOfDevice};
 ghost use Rattle.nv_core.specs.Rooms.{HasRoomsAfter, IsHandOf};
-ghost use Rattle.nv_core.specs.Shown.{ShownCall, hand_of, shared_of, shown, turn_of};
+ghost use Rattle.nv_core.specs.Shown.{ShownCall, hand_of, shared_of, shown, slots_in, turn_of};
 ghost use Rattle.nv_core.specs.GhostCalls.{KeepsRequest};
 
 use crate::ending::refuse;
-use crate::kinds::take::take_from;
+use crate::kinds::take::take_next;
 use crate::next::{FreshPages, Next, SnapshotOrCleanerStep};
 use crate::reservation::Reservation;
 use crate::running::Running;
@@ -19,6 +19,7 @@ use crate::shared::Shared;
 use crate::turn::Turn;
 use nv_alloc::Hand;
 use nv_base::Fault;
+use nv_steps::Taken;
 
 /// Takes log pages from one list, its lowest blocks. The next list is asked for those that are still wanted, if there is one.
 pub(crate) fn take_fresh(
@@ -34,6 +35,9 @@ pub(crate) fn take_fresh(
     requires sized { IsHandOf shared.old.geometry.numbers hand.old }
     requires call { IsMaintaining running.old }
     requires takes { TakesFresh shared.old hand.old fresh }
+    // A cleaner holds the slot of its inode.
+    requires slots { 0 < length (slots_in running.old.slots) }
+    requires wide { length shared.old.owners.items ≡ length shared.old.cells.items }
     requires small { actor + fresh.asked < 2 ^ 64 - 1 }
     // A thorough cleaner takes its log pages from one list a step, its lowest blocks.
     ensures turn { (told : ShownCall) → let s = shared_of shared.old in
@@ -47,38 +51,17 @@ pub(crate) fn take_fresh(
     ensures count { length shared.new.lists.items ≡ length shared.old.lists.items }
 {
     let FreshPages { asked, left, plan } = fresh;
-    let left = left - take_from(shared, &mut hand.pages, left, actor + asked);
-    ask_on(shared, hand, running, FreshPages { asked, left, plan })
-}
-
-/// A list was asked. Where no page is wanted any more, the entries move next; else the next list is asked, if there is one.
-fn ask_on(shared: &Shared, hand: &Hand, running: &mut Running, fresh: FreshPages) -> Turn
-    requires home { AreHome shared.now }
-    requires device { IsOfDevice shared.now.geometry.numbers hand.now }
-    requires sized { IsHandOf shared.now.geometry.numbers hand.now }
-    requires call { IsMaintaining running.old }
-    requires takes { TakesFresh shared.now hand.now fresh }
-    requires small { fresh.asked < 2 ^ 64 - 1 }
-    // No pages left to take is `NoSpace`, and tells of no cleaning.
-    // `NoSpace` comes only after the last list.
-    ensures turn { (told : ShownCall) → let s = shared_of shared.now in let h = hand_of hand.now in
-        fresh_turn fresh.left (nat_lt (fresh.asked + 1) (length s.lists)) fresh.plan.ino fresh.asked
-        s h (shown told running.old)
-        ≡ turn_of result s h (shown told running.new) }
-    ensures request { KeepsRequest running.old running.new }
-    ensures goes { result ≢ Turn.Waits }
-    ensures rooms { HasRoomsAfter result shared.now (Reservation.Hand hand.now) running.new }
-{
-    let FreshPages { asked, left, plan } = fresh;
-    if left == 0 {
-        running.next = Next::SnapshotOrCleaner(SnapshotOrCleanerStep::Compact(plan));
-        return Turn::Moves;
+    match take_next(shared, &mut hand.pages, left, actor, asked) {
+        Taken::All => {
+            running.next = Next::SnapshotOrCleaner(SnapshotOrCleanerStep::Compact(plan));
+            Turn::Moves
+        }
+        Taken::Lacks(left) => {
+            let asked = asked + 1;
+            let fresh = FreshPages { asked, left, plan };
+            running.next = Next::SnapshotOrCleaner(SnapshotOrCleanerStep::Fresh(fresh));
+            Turn::Moves
+        }
+        Taken::TooFew => refuse(shared, hand, running, Fault::NoSpace),
     }
-    let asked = asked + 1;
-    if asked < shared.lists.len() as u64 {
-        let fresh = FreshPages { asked, left, plan };
-        running.next = Next::SnapshotOrCleaner(SnapshotOrCleanerStep::Fresh(fresh));
-        return Turn::Moves;
-    }
-    refuse(shared, hand, running, Fault::NoSpace)
 }

@@ -12,7 +12,8 @@ ghost use Rattle.nv_core.specs.Rooms.{CanDrain, HasRooms, HasRoomsAfter, IsNoVis
 ghost use Rattle.nv_core.specs.Shown.{ShownCall, hand_of, shared_of, shown, turn_of};
 ghost use Rattle.nv_core.specs.GhostCalls.{KeepsRequest, OwesAt};
 
-use crate::ending::give_back;
+use crate::ending::give_left;
+use crate::next::Next;
 use crate::reservation::Reservation;
 use crate::running::Running;
 use crate::shared::Shared;
@@ -24,6 +25,8 @@ pub(crate) fn give(shared: &mut Shared, hand: &mut Hand, running: &mut Running, 
     requires rooms { HasRooms shared.old (Reservation.Hand hand.old) running.old }
     requires request { IsNoVisit running.old.request }
     requires drains { CanDrain running.old.ending running.old.request hand.old }
+    requires wide { length shared.old.owners.items ≡ length shared.old.cells.items }
+    requires next { running.old.next ≡ Next.Give cpu }
     requires cpu { cpu < shared.old.geometry.numbers.cpus }
     requires home { AreHome shared.old }
     requires device { IsOfDevice shared.old.geometry.numbers hand.old }
@@ -40,6 +43,6 @@ pub(crate) fn give(shared: &mut Shared, hand: &mut Hand, running: &mut Running, 
     ensures rest { shared.new ≡ record shared.old { lists = shared.new.lists } }
     ensures count { length shared.new.lists.items ≡ length shared.old.lists.items }
 {
-    hand.give_blocks(&mut shared.lists[cpu as usize]);
-    give_back(shared, hand, running)
+    let left = nv_steps::give(&mut shared.lists[cpu as usize], hand, &shared.geometry);
+    give_left(left, running)
 }

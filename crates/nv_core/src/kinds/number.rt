@@ -4,12 +4,14 @@ ghost use Rattle.std.specs.Prelude.{◌≡◌, ◌≢◌, None, false, length, t
 ghost use Rattle.nv_machine.specs.Kinds.{moves_past, number_turn};
 ghost use Rattle.nv_machine.specs.Reads.{slots_of};
 ghost use Rattle.nv_machine.specs.World as machine;
+ghost use Rattle.nv_core.specs.Parts.{AreHome};
 ghost use Rattle.nv_core.specs.Rooms.{FitsCall, HasNextRoom, HasRooms, HasRoomsAfter, takes};
 ghost use Rattle.nv_core.specs.Shown.{ShownCall, hand_of, shared_of, shown, turn_of};
 ghost use Rattle.nv_core.specs.GhostCalls.{IsShownCallOf, KeepsRequest, makes_inode};
 ghost use Rattle.nv_core.specs.declared.request.Request.{Request};
 ghost use Rattle.nv_core.specs.declared.next.Ending.{Ending};
 
+use crate::next::Next;
 use crate::reservation::Reservation;
 use crate::running::{Running, locking};
 use crate::shared::Shared;
@@ -21,6 +23,9 @@ use nv_calls::slots_of;
 /// Takes the lowest free number into the hand. That there is none is told at the check.
 pub(crate) fn number(shared: &mut Shared, hand: &mut Hand, running: &mut Running) -> Turn
     requires rooms { HasRooms shared.old (Reservation.Hand hand.old) running.old }
+    requires home { AreHome shared.old }
+    requires wide { length shared.old.owners.items ≡ length shared.old.cells.items }
+    requires next { running.old.next ≡ Next.Number }
     requires makes { makes_inode running.old.request ≡ true }
     requires none { hand.old.ino ≡ None }
     ensures turn { (told : ShownCall) → IsShownCallOf running.old told → let s = shared_of shared.old in
@@ -31,13 +36,8 @@ pub(crate) fn number(shared: &mut Shared, hand: &mut Hand, running: &mut Running
     ensures rooms { HasRoomsAfter result shared.new (Reservation.Hand hand.new) running.new }
     ensures rest { shared.new ≡ record shared.old { pool = shared.new.pool } }
 {
-    match shared.pool.take() {
-        Some(ino) => {
-            hand.put_ino(ino);
-            goes_to_locks(shared.inodes(), running, Some(ino))
-        }
-        None => goes_to_locks(shared.inodes(), running, None),
-    }
+    let number = nv_steps::take_number(&mut shared.pool, hand);
+    goes_to_locks(shared.inodes(), running, number)
 }
 
 /// It is known which slots the call locks, with this number among them.

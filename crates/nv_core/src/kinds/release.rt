@@ -1,6 +1,6 @@
 //! A deferred record is released.
 
-ghost use Rattle.std.specs.Prelude.{◌≡◌, ◌≢◌, ◌∷◌, ℕ, []};
+ghost use Rattle.std.specs.Prelude.{◌≡◌, ◌≢◌, ◌∷◌, ℕ, [], length};
 ghost use Rattle.nv_machine.specs.SnapshotOrCleaner.{release_turn};
 ghost use Rattle.nv_machine.specs.World.{empty_hand};
 ghost use Rattle.nv_machine.specs.Locks.{held_at};
@@ -11,7 +11,7 @@ ghost use Rattle.nv_core.specs.Shown.{ShownCall, draining_of, hand_of, next_of, 
 ghost use Rattle.nv_core.specs.Steps.{CanRelease};
 ghost use Rattle.nv_core.specs.GhostCalls.{KeepsRequest};
 
-use crate::ending::end;
+use crate::ending::unlock_first;
 use crate::next::{Draining, Ending, Next, SnapshotOrCleanerStep};
 use crate::reservation::Reservation;
 use crate::running::Running;
@@ -19,7 +19,6 @@ use crate::shared::Shared;
 use crate::turn::Turn;
 use nv_alloc::Hand;
 use nv_book::Record;
-use nv_clean::release_on;
 
 /// Releases the picked record: its part goes out. The drain turns to the last steps of this record.
 pub(crate) fn release(
@@ -33,6 +32,7 @@ pub(crate) fn release(
         ≡ Next.SnapshotOrCleaner (SnapshotOrCleanerStep.Release draining picked) }
     requires slots { slots_in running.old.slots ≡ picked.ino ∷ [] }
     requires home { AreHome shared.old }
+    requires wide { length shared.old.owners.items ≡ length shared.old.cells.items }
     requires can { CanRelease shared.old picked }
     requires empty { hand_of hand.old ≡ empty_hand }
     requires rooms { HasRooms shared.old (Reservation.Hand hand.old) running.old }
@@ -49,14 +49,15 @@ pub(crate) fn release(
     ensures rest { (actor : ℕ) → LeavesRest actor (held_at (next_of running.old.next)
         (slots_in running.old.slots)) shared.old shared.new }
 {
-    release_on(
+    nv_steps::release(
         &mut shared.cells[picked.ino.number() as usize],
-        picked,
         hand,
+        picked,
     );
     let drained = Draining {
         released: draining.released + 1,
         left: draining.left,
     };
-    end(shared, hand, running, Ending::Drains(drained))
+    unlock_first(running, Ending::Drains(drained));
+    Turn::Moves
 }

@@ -1,14 +1,16 @@
 //! The number in the hand goes back.
 
-ghost use Rattle.std.specs.Prelude.{◌≡◌, ◌≢◌, ◌<◌, false};
+ghost use Rattle.std.specs.Prelude.{◌≡◌, ◌≢◌, ◌<◌, false, length};
 ghost use Rattle.std.specs.Option.{ForSome};
 ghost use Rattle.nv_alloc.specs.Numbers.{has};
 ghost use Rattle.nv_machine.specs.Kinds.{return_number_turn};
+ghost use Rattle.nv_core.specs.Parts.{AreHome};
 ghost use Rattle.nv_core.specs.Rooms.{CanDrain, CanEnd, HasRooms, HasRoomsAfter};
 ghost use Rattle.nv_core.specs.Shown.{ShownCall, hand_of, shared_of, shown, turn_of};
 ghost use Rattle.nv_core.specs.GhostCalls.{KeepsRequest, OwesAt};
 
 use crate::ending::last;
+use crate::next::Next;
 use crate::reservation::Reservation;
 use crate::running::Running;
 use crate::shared::Shared;
@@ -18,6 +20,9 @@ use nv_alloc::Hand;
 /// Gives the number in the hand back, which is the call's last step, or that of a record of a drain.
 pub(crate) fn return_number(shared: &mut Shared, hand: &mut Hand, running: &mut Running) -> Turn
     requires rooms { HasRooms shared.old (Reservation.Hand hand.old) running.old }
+    requires home { AreHome shared.old }
+    requires wide { length shared.old.owners.items ≡ length shared.old.cells.items }
+    requires next { running.old.next ≡ Next.ReturnNumber }
     requires call { CanEnd running.old running.old.ending }
     requires drains { CanDrain running.old.ending running.old.request hand.old }
     requires inode { ForSome hand.old.ino (λ ino. ino < shared.old.pool.inodes) }
@@ -32,8 +37,6 @@ pub(crate) fn return_number(shared: &mut Shared, hand: &mut Hand, running: &mut 
     ensures rooms { HasRoomsAfter result shared.new (Reservation.Hand hand.new) running.new }
     ensures rest { shared.new ≡ record shared.old { pool = shared.new.pool } }
 {
-    if let Some(ino) = hand.take_ino() {
-        shared.pool.give(ino);
-    }
+    nv_steps::return_number(&mut shared.pool, hand);
     last(running)
 }

@@ -1,16 +1,18 @@
 //! A snapshot is pinned, shown inode by inode, and unpinned.
 
-ghost use Rattle.std.specs.Prelude.{◌≡◌, ◌≢◌, ◌<◌, [], IfOk, false};
+ghost use Rattle.std.specs.Prelude.{◌≡◌, ◌≢◌, ◌<◌, [], None, false, length};
 ghost use Rattle.std.specs.Option.{ForSome, IsSomeAnd};
 ghost use Rattle.nv_base.specs.Refusals.{FailsOnly};
 ghost use Rattle.nv_base.specs.Memory.{out_of_memory};
 ghost use Rattle.nv_base.specs.declared.limits.TheConstants.{PINS};
 ghost use Rattle.nv_epoch.specs.SnapList.{pins_of};
-ghost use Rattle.nv_machine.specs.SnapshotOrCleaner.{copies_at, pin_turn, seen_on, show_turn, showing_on, shown_by, unpin_turn, visited};
+ghost use Rattle.nv_machine.specs.SnapshotOrCleaner.{copies_at, pin_turn, show_turn, showing_on, shown_by, unpin_turn, visited};
 ghost use Rattle.nv_machine.specs.World as machine;
 ghost use Rattle.nv_machine.specs.World.{HandState, empty_hand, owner_at};
 ghost use Rattle.nv_reader.specs.Showing.{is_over};
 ghost use Rattle.nv_steps.specs.OnBook.{answer_of_show};
+ghost use Rattle.nv_steps.specs.Reading.{once_shown};
+ghost use Rattle.nv_core.specs.Parts.{AreHome};
 ghost use Rattle.nv_core.specs.Rooms.{HasRooms, HasRoomsAfter, HasStepRoom, IsShow, IsUnpin};
 ghost use Rattle.nv_core.specs.Shown.{ShownCall, ending_of, seen_in, shared_of, showing_in, shown, slots_in, snapshot_in, step_on, turn_of};
 ghost use Rattle.nv_core.specs.Steps.{CanShow};
@@ -66,6 +68,8 @@ fn showing_on(snapshot: u64, showing: Showing) -> SnapshotOrCleanerStep
 
 /// Visits one inode at the epoch of a snapshot, or waits for its lock. Where memory is refused, the pin is to go.
 pub(crate) fn show(alloc: Global, shared: &Shared, running: &mut Running) -> Turn
+    requires home { AreHome shared.now }
+    requires wide { length shared.now.owners.items ≡ length shared.now.cells.items }
     requires next { IsShow running.old.next }
     requires can { CanShow shared.now (snapshot_in running.old.next) }
     requires more { is_over (showing_in running.old.next) ≡ false }
@@ -110,14 +114,19 @@ pub(crate) fn show(alloc: Global, shared: &Shared, running: &mut Running) -> Tur
 
 /// Makes the next visit of a show.
 fn see(alloc: Global, shared: &Shared, snapshot: u64, showing: Showing) -> Result<Showing, Fault>
+    requires home { AreHome shared.now }
+    requires wide { length shared.now.owners.items ≡ length shared.now.cells.items }
     requires can { CanShow shared.now snapshot }
     requires more { is_over showing ≡ false }
-    ensures ok { IfOk result (λ after. after
-        ≡ seen_on (copies_at (shared_of shared.now) snapshot (visited showing.visits)) showing) }
+    requires free { owner_at (shared_of shared.now) (visited showing.visits).ino ≡ None }
+    ensures turn { (h : HandState) (r : machine.Running) → let s = shared_of shared.now in
+        IsEither (λ granted. show_turn (owner_at s (visited showing.visits).ino) granted
+        (copies_at s snapshot (visited showing.visits)) snapshot showing s h r)
+        (machine.Moves s h (once_shown snapshot result r)) }
     ensures err { FailsOnly out_of_memory result }
 {
     let cell = shared.cell(showing.visited().ino);
-    showing.visit(alloc, cell, Epoch::new(snapshot))
+    nv_steps::show(alloc, cell, Epoch::new(snapshot), showing)
 }
 
 /// Takes the pin off, and answers the nodes that were seen. This is the call's last step.

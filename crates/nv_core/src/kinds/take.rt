@@ -1,27 +1,30 @@
 //! Blocks are taken from a list.
 
-ghost use Rattle.std.specs.Prelude.{◌≡◌, ◌≢◌, ◌+◌, ◌-◌, ◌%◌, ◌<◌, ◌≤◌, ◌^◌, length, min};
-ghost use Rattle.nv_machine.specs.Kinds.{asked_list, refuse, take_blocks_turn, take_log_pages_turn, wants_pages};
+ghost use Rattle.std.specs.Prelude.{◌≡◌, ◌≢◌, ◌+◌, ◌-◌, ◌%◌, ◌<◌, ◌≤◌, ◌^◌, length, take};
+ghost use Rattle.nv_machine.specs.Kinds.{asked_list, take_blocks_turn, take_log_pages_turn, wants_pages};
 ghost use Rattle.nv_machine.specs.Reads.{pages_wanted, plan_by};
-ghost use Rattle.nv_base.specs.declared.fault.Fault.TheVariants.{NoSpace};
+ghost use Rattle.nv_base.specs.declared.geometry.GeometryNumbers.{GeometryNumbers};
 ghost use Rattle.nv_base.specs.Limits.{IsWithinLimits};
 ghost use Rattle.nv_calls.specs.declared.log_pages.TheConstants.{MORE_PAGES};
 ghost use Rattle.nv_core.specs.Parts.{AreHome, IsOfDevice};
-ghost use Rattle.nv_core.specs.Rooms.{CanCountPages, CanEnd, CanWantPages, FitsCall, HasRooms, HasRoomsAfter, IsHandOf, pages_to_take};
+ghost use Rattle.nv_core.specs.Rooms.{CanCountPages, CanWantPages, FitsCall, HasRooms, HasRoomsAfter, IsHandOf, pages_to_take};
 ghost use Rattle.nv_core.specs.Shown.{ShownCall, hand_of, shared_of, shown, slots_in, turn_of};
-ghost use Rattle.nv_machine.specs.World.{list_at};
+ghost use Rattle.nv_machine.specs.World as machine;
+ghost use Rattle.nv_machine.specs.World.{HandState, list_at};
+ghost use Rattle.nv_steps.specs.OnList.{IsTaking, IsTold, Taking, on_list, taking_on, with_taken};
 ghost use Rattle.nv_core.specs.Takings.{IsTaken};
 ghost use Rattle.nv_core.specs.GhostCalls.{IsChangeWith, IsShownCallOf, KeepsRequest};
 
 use crate::ending::refuse;
 use crate::lent::pages_in;
-use crate::next::{Ending, Next};
+use crate::next::Next;
 use crate::reservation::Reservation;
 use crate::running::Running;
 use crate::shared::Shared;
 use crate::turn::Turn;
 use nv_alloc::{BlockQueue, Hand};
 use nv_base::Fault;
+use nv_steps::Taken;
 
 /// The call wants log pages. A taking of nothing has no step.
 pub(crate) fn want_pages(shared: &mut Shared, hand: &Hand, running: &mut Running) -> Turn
@@ -75,6 +78,7 @@ pub(crate) fn take_blocks(
     requires home { AreHome shared.old }
     requires device { IsOfDevice shared.old.geometry.numbers hand.old }
     requires rooms { HasRooms shared.old (Reservation.Hand hand.old) running.old }
+    requires wide { length shared.old.owners.items ≡ length shared.old.cells.items }
     requires next { running.old.next ≡ Next.TakeBlocks asked }
     requires small { actor + asked < 2 ^ 64 - 1 }
     // A taking refuses its call only after the last list.
@@ -88,18 +92,15 @@ pub(crate) fn take_blocks(
     ensures rest { shared.new ≡ record shared.old { lists = shared.new.lists } }
     ensures count { length shared.new.lists.items ≡ length shared.old.lists.items }
 {
-    let left = running.wanted - take_from(shared, &mut hand.data, running.wanted, actor + asked);
-    if left == 0 {
-        return want_pages(shared, hand, running);
+    match take_next(shared, &mut hand.data, running.wanted, actor, asked) {
+        Taken::All => want_pages(shared, hand, running),
+        Taken::Lacks(left) => {
+            running.wanted = left;
+            running.next = Next::TakeBlocks(asked + 1);
+            Turn::Moves
+        }
+        Taken::TooFew => refuse(shared, hand, running, Fault::NoSpace),
     }
-    ask_on(
-        shared,
-        hand,
-        running,
-        asked,
-        left,
-        Next::TakeBlocks(asked + 1),
-    )
 }
 
 /// Takes log pages from one list, its lowest blocks.
@@ -114,6 +115,7 @@ pub(crate) fn take_log_pages(
     requires home { AreHome shared.old }
     requires device { IsOfDevice shared.old.geometry.numbers hand.old }
     requires rooms { HasRooms shared.old (Reservation.Hand hand.old) running.old }
+    requires wide { length shared.old.owners.items ≡ length shared.old.cells.items }
     requires next { running.old.next ≡ Next.TakeLogPages asked }
     requires small { actor + asked < 2 ^ 64 - 1 }
     ensures turn { (told : ShownCall) → let s = shared_of shared.old in
@@ -126,71 +128,54 @@ pub(crate) fn take_log_pages(
     ensures rest { shared.new ≡ record shared.old { lists = shared.new.lists } }
     ensures count { length shared.new.lists.items ≡ length shared.old.lists.items }
 {
-    let left = running.wanted - take_from(shared, &mut hand.pages, running.wanted, actor + asked);
-    if left == 0 {
-        running.wanted = 0;
-        running.next = Next::Ready;
-        return Turn::Moves;
+    match take_next(shared, &mut hand.pages, running.wanted, actor, asked) {
+        Taken::All => {
+            running.wanted = 0;
+            running.next = Next::Ready;
+            Turn::Moves
+        }
+        Taken::Lacks(left) => {
+            running.wanted = left;
+            running.next = Next::TakeLogPages(asked + 1);
+            Turn::Moves
+        }
+        Taken::TooFew => refuse(shared, hand, running, Fault::NoSpace),
     }
-    ask_on(
-        shared,
-        hand,
-        running,
-        asked,
-        left,
-        Next::TakeLogPages(asked + 1),
-    )
 }
 
-/// Takes the lowest blocks of the list at a place, counted from the first one round and round, and
-/// says how many.
-pub(crate) fn take_from(shared: &mut Shared, queue: &mut BlockQueue, wanted: u64, place: u64) -> u64
+/// Takes the lowest blocks of the list that is asked next, at most so many: the actor's own is the first, and they are
+/// asked round and round.
+pub(crate) fn take_next(
+    shared: &mut Shared,
+    queue: &mut BlockQueue,
+    wanted: u64,
+    actor: u64,
+    asked: u64,
+) -> Taken
     requires limits { IsWithinLimits shared.old.geometry.numbers }
     requires home { AreHome shared.old }
     requires room { wanted ≤ queue.old.room }
     requires size { queue.old.size ≡ shared.old.geometry.numbers.block }
-    ensures taken { let cpu = place % length shared.old.lists.items in
+    requires small { actor + asked < 2 ^ 64 - 1 }
+    ensures turn { (taking : Taking) (numbers : GeometryNumbers) (h : HandState) (r : machine.Running)
+        → let cpu = (actor + asked) % length shared.old.lists.items in
+        let list = list_at (shared_of shared.old) cpu in
+        numbers.cpus ≡ length shared.old.lists.items → r ≡ taking_on taking asked wanted r
+        → IsTaking taking asked numbers actor
+        (on_list r h cpu list (list_at (shared_of shared.new) cpu)) result
+        (with_taken taking (take wanted list.blocks) h) }
+    ensures taken { let cpu = (actor + asked) % length shared.old.lists.items in
         IsTaken shared.old.geometry.numbers.blocks wanted cpu (list_at (shared_of shared.old) cpu)
         shared.old.lists.items shared.new.lists.items queue.old queue.new }
-    ensures many { result ≡ min wanted
-        (length (list_at (shared_of shared.old) (place % length shared.old.lists.items)).blocks) }
+    ensures told { let cpu = (actor + asked) % length shared.old.lists.items in
+        IsTold wanted (length (list_at (shared_of shared.old) cpu).blocks) asked
+        (length shared.old.lists.items) result }
     ensures rest { shared.new ≡ record shared.old { lists = shared.new.lists } }
 {
-    let cpu = shared.cpu_of(place) as usize;
+    let lists = shared.lists.len() as u64;
+    let cpu = shared.cpu_of(actor + asked) as usize;
     let list = &mut shared.lists[cpu];
     // What a list has free is at home there.
     list.rises();
-    list.take(wanted, queue)
-}
-
-/// Some blocks are still wanted: the next list is asked, if there is one.
-fn ask_on(
-    shared: &Shared,
-    hand: &Hand,
-    running: &mut Running,
-    asked: u64,
-    left: u64,
-    next: Next,
-) -> Turn
-    requires small { asked < 2 ^ 64 - 1 }
-    requires home { AreHome shared.now }
-    requires device { IsOfDevice shared.now.geometry.numbers hand.now }
-    requires call { CanEnd running.old (Ending.Refuses NoSpace) }
-    requires sized { IsHandOf shared.now.geometry.numbers hand.now }
-    ensures more { asked + 1 < length shared.now.lists.items → (result ≡ Turn.Moves)
-        × (running.new ≡ record running.old { wanted = left; next = next }) }
-    ensures none { (told : ShownCall) → length shared.now.lists.items ≤ asked + 1
-        → let s = shared_of shared.now in let h = hand_of hand.now in
-        refuse NoSpace s h (shown told running.old) ≡ turn_of result s h (shown told running.new) }
-    ensures request { KeepsRequest running.old running.new }
-    ensures goes { result ≢ Turn.Waits }
-    ensures rooms { length shared.now.lists.items ≤ asked + 1
-        → HasRoomsAfter result shared.now (Reservation.Hand hand.now) running.new }
-{
-    if asked + 1 < shared.lists.len() as u64 {
-        running.wanted = left;
-        running.next = next;
-        return Turn::Moves;
-    }
-    refuse(shared, hand, running, Fault::NoSpace)
+    nv_steps::take(list, queue, wanted, asked, lists)
 }

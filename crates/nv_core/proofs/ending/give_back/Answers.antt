@@ -1,18 +1,15 @@
-use Rattle.std.proofs.Common.{arith}
+use Rattle.std.proofs.Common.{◌∙◌, ℕ, Option, ap}
 use Rattle.nv_alloc.specs.Hand.{blocks_of}
-use Rattle.nv_core.proofs.Homes.{home_none, home_some}
+use Rattle.nv_machine.specs.Kinds.{rest_turn}
+use Rattle.nv_steps.specs.OnList.{home_left}
+use Rattle.nv_core.specs.Shown.{hand_of, shared_of, shown}
+use Rattle.nv_core.proofs.LentParts.{home_told}
 use Rattle.nv_core.proofs.ending.give_back.Goals as goal
 
-pub returns-in-Some-clause-turn : goal.returns-in-Some-clause-turn
-returns-in-Some-clause-turn c told owes =
-    let low = c.in-Some.ensures in
-    let home = home_some c.args.shared.now.geometry.numbers 0 c.in-Some.cpu c.args.shared.now.lists.items
-    (blocks_of c.args.hand.now) low.1.0
-    c.requires.home (omega arith) low.0 low.1.1 low.1.2 low.2 in
-    rw home
-
-pub returns-in-None-clause-turn : goal.returns-in-None-clause-turn
-returns-in-None-clause-turn c told owes =
-    let none = home_none c.args.shared.now.geometry.numbers.blocks 0 c.args.shared.now.lists.items (blocks_of c.args.hand.now)
-    c.requires.device c.in-None.ensures in
-    rw none (c.give_number.ensures.turn told _ owes)
+pub returns-clause-turn : goal.returns-clause-turn
+returns-clause-turn c told owes =
+    let s = shared_of c.args.shared.now in
+    let h = hand_of c.args.hand.now in
+    ap (λ (home : Option ℕ). rest_turn home h.ino s h (shown told c.args.running.now))
+    (home_told c.args.shared.now (blocks_of c.args.hand.now) (home_left c.left_in_hand.result) c.requires.home c.left_in_hand.ensures.home)
+    ∙ c.give_left.ensures.turn told s h owes c.left_in_hand.ensures.number

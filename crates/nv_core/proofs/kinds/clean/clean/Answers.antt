@@ -2,8 +2,15 @@ use Rattle.std.proofs.Common.{◌≡◌, refl}
 use Rattle.nv_core.specs.declared.next.SnapshotOrCleanerStep.TheVariants as on
 use Rattle.nv_core.specs.declared.next.Next.TheVariants as next
 use Rattle.nv_core.proofs.Cleanings.{rest_held}
-use Rattle.nv_core.proofs.FreshTurns.{fresh_shown}
+use Rattle.nv_core.proofs.FreshTurns.{fresh_shown, holds_fresh}
 use Rattle.nv_core.proofs.kinds.clean.clean.Goals as goal
+
+pub take_fresh-requires-clause-slots : goal.take_fresh-requires-clause-slots
+take_fresh-requires-clause-slots c =
+    let value = c.replace.ensures.value in let is = c.in-SnapshotOrCleaner-Fresh.is in
+    let step = c.in-SnapshotOrCleaner-Fresh.field-0-is in let fresh = c.in-SnapshotOrCleaner-Fresh.fresh-is in
+    let at : c.args.running.now.next ≡ next.SnapshotOrCleaner (on.Fresh c.in-SnapshotOrCleaner-Fresh.fresh) = cc in
+    holds_fresh c.args.shared.now c.args.hand.now c.args.running.now c.in-SnapshotOrCleaner-Fresh.fresh at c.requires.can.own
 
 pub returns-in-SnapshotOrCleaner-Fresh-clause-turn : goal.returns-in-SnapshotOrCleaner-Fresh-clause-turn
 returns-in-SnapshotOrCleaner-Fresh-clause-turn c told granted =

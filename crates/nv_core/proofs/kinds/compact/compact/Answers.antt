@@ -1,20 +1,33 @@
-use Rattle.std.proofs.Common.{◌≡◌, ℕ, ap, slice_set}
-use Rattle.nv_machine.specs.World.{cell_at}
-use Rattle.nv_core.specs.Shown.{shared_of, shown}
-use Rattle.nv_core.proofs.Cleanings.{compact_turns}
+use Rattle.std.proofs.Common.{◌≡◌, ◌∙◌, ℕ, true, ap, refl, slice_set, subst, sym}
+use Rattle.nv_machine.specs.World as machine
+use Rattle.nv_machine.specs.World.{Moves}
+use Rattle.nv_core.specs.Shown.{hand_of, shown}
+use Rattle.nv_core.proofs.LentCells.{numbers_in, compacted_here, with_cells}
 use Rattle.nv_core.proofs.Settled.{cell_there}
+use Rattle.nv_alloc.specs.declared.hand.Hand.{Hand}
+use Rattle.nv_core.specs.Rooms.{IsHandOf}
+use Rattle.nv_core.proofs.HeldRooms.{can_end, chain_stays}
 use Rattle.nv_core.proofs.kinds.compact.compact.Goals as goal
-
-here : (c : goal.After-end) → cell_at (shared_of c.args.shared.now) c.args.plan.ino ≡ c.index_mut.result.now.state
-here c =
-    cell_there c.args.shared.now.cells.items c.args.plan.ino c.index_mut.result.now c.requires.can.slot
-    (rw c.number.ensures at c.index_mut.ensures.value)
 
 pub returns-clause-turn : goal.returns-clause-turn
 returns-clause-turn c told =
-    compact_turns c.args.shared.now c.args.plan.ino c.index_mut.result.now.state c.args.hand.now c.thorough_on-cleaned.new.hand _
-    c.thorough_on-cleaned.new.cell c.thorough_on-cleaned.result (shown told c.args.running.now) _
-    (ap (λ (n : ℕ). slice_set c.args.shared.now.cells.items n c.thorough_on-cleaned.new.cell) c.number.ensures) (here c)
-    c.args.plan.walk (rw (here c) at c.requires.plan.move.walk) c.requires.plan.move.some c.thorough_on-cleaned.ensures.cell
-    c.thorough_on-cleaned.ensures.hand c.requires.alone c.thorough_on-cleaned.ensures.answer
-    (c.end.ensures.turn told (λ answers. absurd (cc)))
+    let shared = c.args.shared.now in
+    let ino = c.args.plan.ino in
+    let r = shown told c.args.running.now in
+    let new = c.compact-cleaned.new.cell in
+    let cells = slice_set shared.cells.items c.number.result new in
+    let here =
+    cell_there shared.cells.items ino c.index_mut.result.now c.requires.can.slot (rw c.number.ensures at c.index_mut.ensures.value) in
+    compacted_here shared c.requires.home c.requires.wide ino c.index_mut.result.now.state here c.requires.can.slot r
+    (hand_of c.args.hand.now) (hand_of c.compact-cleaned.new.hand) new cells
+    (ap (λ (n : ℕ). slice_set shared.cells.items n new) c.number.ensures) c.compact-cleaned.result
+    (c.compact-cleaned.ensures.turn (numbers_in shared) 0 ino true (machine.go_to (machine.SnapshotOrCleaner (machine.Compact ino)) r)
+    (record { next = refl; slots = c.requires.slots }))
+    ∙ ap (λ (q : machine.Running). Moves (with_cells cells shared) (hand_of c.compact-cleaned.new.hand) q)
+    (sym (c.unlock_first.ensures.ends told))
+
+pub returns-clause-rooms : goal.returns-clause-rooms
+returns-clause-rooms c =
+    c.unlock_first.ensures.rooms _ c.compact-cleaned.new.hand (can_end c.args.running.now _ c.requires.call.request (λ same. absurd (cc)))
+    (subst (λ (h : Hand). IsHandOf c.args.shared.now.geometry.numbers h) (sym c.compact-cleaned.ensures.hand)
+    (chain_stays c.args.shared.now.geometry.numbers c.args.plan.walk c.index_mut.result.now.state c.args.hand.now c.requires.sized)) tt

@@ -1,62 +1,82 @@
-use Rattle.std.proofs.Common.{ℕ, ◌+◌, ◌∙◌, None, ap, sym}
+use Rattle.std.proofs.Common.{◌≡◌, ◌∙◌, ◌+◌, ℕ, None, ap, refl, subst, sym, true}
+use Rattle.std.specs.Prelude.{Err}
 use Rattle.std.proofs.lemmas.List.{length-map}
 use Rattle.nv_base.specs.declared.numbers.Handle.{Handle}
 use Rattle.nv_calls.specs.AllCalls.{look_refusal, looked}
-use Rattle.nv_calls.specs.Locked.{slots_among}
 use Rattle.nv_calls.specs.Updates.{call_of}
 use Rattle.nv_calls.specs.declared.call.Call.{Call}
-use Rattle.nv_cell.specs.Cell.{CellValue}
-use Rattle.nv_machine.specs.Kinds.{look_tests, seen_at}
-use Rattle.nv_machine.specs.Reads.{copies, slots_of}
+use Rattle.nv_machine.specs.Kinds.{look_tests, look_turn, seen_at}
+use Rattle.nv_machine.specs.Reads.{copies}
 use Rattle.nv_machine.specs.Sequence.{directories}
 use Rattle.nv_machine.specs.Step.{handle_at}
-use Rattle.nv_machine.specs.World.{owner_at}
-use Rattle.nv_core.proofs.Looks.{call_by, look_alone, look_ends, look_moves, nobody, place_of}
+use Rattle.nv_machine.specs.World as machine
+use Rattle.nv_machine.specs.World.{HandState, empty_hand, owner_at}
+use Rattle.nv_steps.specs.Reading.{once_looked}
+use Rattle.nv_steps.proofs.Looks.{IsCellOf}
 use Rattle.nv_core.specs.Shown.{hand_of, next_of, shared_of, shown, slots_in}
 use Rattle.nv_core.specs.GhostCalls.{looking_at}
+use Rattle.nv_core.specs.declared.shared.Shared.{Shared}
+use Rattle.nv_core.proofs.LentCells.{numbers_in}
+use Rattle.nv_core.proofs.LentReads.{IsThere, in_range, read_end, read_move}
+use Rattle.nv_core.proofs.Looks.{call_by, nobody}
 use Rattle.nv_core.proofs.kinds.look.look.Goals as goal
 
 pub returns-in-Ok-clause-turn : goal.returns-in-Ok-clause-turn
 returns-in-Ok-clause-turn c told is =
-    let s = shared_of c.args.shared.now in
+    let shared = c.args.shared.now in
+    let s = shared_of shared in
+    let home = c.requires.home in
+    let wide = c.requires.wide in
     let place = c.args.place in
+    let r = shown told c.args.running.now in
+    let cell = c.cell-cell.result in
     let found = c.in-Ok.looked in
-    let u = c.update-update.result.now in
+    let slots = slots_in c.in-Ok.slots in
     let by = call_by c.args.running.now.request c.args.running.now.owed told.call c.update-update.result.now c.update-update.ensures is in
-    let look =
-    rw c.in-Ok.is at
-    (look_alone s u by.0 place c.args.running.now.looked c.directory-ino.result (λ cell. cell.now) c.cell.result c.look_at.result
-    (place_of c.args.running.now.request c.update-update.result.now place c.update-update.ensures c.requires.place) (c.directory-ino.ensures by.0)
-    c.cell.ensures (λ bytes. c.look_at.ensures bytes by.0)) in
-    let many = length-map c.args.shared.now.cells.items (λ (x : CellValue). x.state) ∙ sym c.inodes.ensures in
-    look_moves s (hand_of c.args.hand.now) (shown told c.args.running.now) (owner_at s (handle_at (directories told.call) place).ino)
-    (look_tests place (look_refusal (copies s) told.call))
-    (seen_at (directories told.call) place (looked (copies s) told.call) c.args.running.now.looked) found place
-    (slots_in c.slots_of-slots.result) (next_of c.looking-next.result)
-    (ap (λ (x : Call). owner_at s (handle_at (directories x) place).ino) by.1
-    ∙ ap (λ (dir : Handle). owner_at s dir.ino) (sym (c.directory-ino.ensures by.0))
-    ∙ nobody (owner_at s c.directory-ino.result.ino) c.is_locked.result c.is_locked.ensures c.if-is_locked.false)
-    (ap (λ (x : Call). look_tests place (look_refusal (copies s) x)) by.1 ∙ look.0)
-    (look.1 ∙ sym (ap (λ (x : Call). seen_at (directories x) place (looked (copies s) x) c.args.running.now.looked) by.1))
-    (c.slots_of-slots.ensures by.0 ∙ ap (λ (m : ℕ). slots_among m None found (call_of u by.0)) (sym many)
-    ∙ sym (ap (λ (x : Call). slots_of s None found x) by.1))
-    (c.looking-next.ensures.next by.0 ∙ sym (ap (λ (x : Call). looking_at (place + 1) (slots_in c.slots_of-slots.result) x) by.1))
+    let dir = handle_at (directories (call_of c.update-update.result.now by.0)) place in
+    let at : c.directory-ino.result ≡ dir = c.directory-ino.ensures by.0 in
+    let there : IsThere shared home wide dir.ino (λ cell. cell.now) cell =
+    subst (λ (d : Handle). IsThere shared home wide d.ino (λ cell. cell.now) cell) at c.cell-cell.ensures.range in
+    let lent : IsCellOf s dir.ino (λ cell. cell.now) cell =
+    subst (λ (d : Handle). IsCellOf s d.ino (λ cell. cell.now) cell) at c.cell-cell.ensures.cell in
+    let free : owner_at s dir.ino ≡ None =
+    subst (λ (d : Handle). owner_at s d.ino ≡ None) at
+    (nobody (owner_at s c.directory-ino.result.ino) c.is_locked.result c.is_locked.ensures c.if-is_locked.false) in
+    subst (λ (h : HandState). look_turn (owner_at s (handle_at (directories told.call) place).ino)
+    (look_tests place (look_refusal (copies s) told.call)) (seen_at (directories told.call) place (looked (copies s) told.call) r.looked)
+    place s h r ≡ machine.Moves s h (record r { looked = found; slots = slots; next = next_of c.looking-next.result }))
+    (sym c.requires.empty)
+    (read_move shared home wide dir.ino (λ cell. cell.now) cell there lent free (machine.Look place) true r empty_hand empty_hand
+    (ap next_of c.requires.next) (once_looked place found slots r)
+    (c.in-Ok.ensures.turn (numbers_in shared) 0 true by.0 r (ap next_of c.requires.next) by.1 refl (sym c.inodes.ensures)
+    (in_range shared home wide dir.ino (λ cell. cell.now) cell there))
+    ∙ ap (λ (n : machine.Next). machine.Moves s empty_hand (record r { looked = found; slots = slots; next = n }))
+    (ap (λ (x : Call). looking_at (place + 1) slots x) by.1 ∙ sym (c.looking-next.ensures.next by.0)))
 
 pub returns-in-Err-clause-turn : goal.returns-in-Err-clause-turn
 returns-in-Err-clause-turn c told is =
-    let s = shared_of c.args.shared.now in
+    let shared = c.args.shared.now in
+    let s = shared_of shared in
+    let home = c.requires.home in
+    let wide = c.requires.wide in
     let place = c.args.place in
+    let r = shown told c.args.running.now in
+    let cell = c.cell-cell.result in
     let by = call_by c.args.running.now.request c.args.running.now.owed told.call c.update-update.result.now c.update-update.ensures is in
-    let look =
-    rw c.in-Err.is at
-    (look_alone s c.update-update.result.now by.0 place c.args.running.now.looked c.directory-ino.result (λ cell. cell.now) c.cell.result
-    c.look_at.result (place_of c.args.running.now.request c.update-update.result.now place c.update-update.ensures c.requires.place)
-    (c.directory-ino.ensures by.0) c.cell.ensures (λ bytes. c.look_at.ensures bytes by.0)) in
-    look_ends s (hand_of c.args.hand.now) (shown told c.args.running.now) (owner_at s (handle_at (directories told.call) place).ino)
-    (look_tests place (look_refusal (copies s) told.call))
-    (seen_at (directories told.call) place (looked (copies s) told.call) c.args.running.now.looked) place c.in-Err.fault
-    (ap (λ (x : Call). owner_at s (handle_at (directories x) place).ino) by.1
-    ∙ ap (λ (dir : Handle). owner_at s dir.ino) (sym (c.directory-ino.ensures by.0))
-    ∙ nobody (owner_at s c.directory-ino.result.ino) c.is_locked.result c.is_locked.ensures c.if-is_locked.false)
-    (ap (λ (x : Call). look_tests place (look_refusal (copies s) x)) by.1 ∙ look)
-    ∙ c.give_back.ensures.turn told (λ e. absurd (cc))
+    let dir = handle_at (directories (call_of c.update-update.result.now by.0)) place in
+    let at : c.directory-ino.result ≡ dir = c.directory-ino.ensures by.0 in
+    let there : IsThere shared home wide dir.ino (λ cell. cell.now) cell =
+    subst (λ (d : Handle). IsThere shared home wide d.ino (λ cell. cell.now) cell) at c.cell-cell.ensures.range in
+    let lent : IsCellOf s dir.ino (λ cell. cell.now) cell =
+    subst (λ (d : Handle). IsCellOf s d.ino (λ cell. cell.now) cell) at c.cell-cell.ensures.cell in
+    let free : owner_at s dir.ino ≡ None =
+    subst (λ (d : Handle). owner_at s d.ino ≡ None) at
+    (nobody (owner_at s c.directory-ino.result.ino) c.is_locked.result c.is_locked.ensures c.if-is_locked.false) in
+    subst (λ (h : HandState). look_turn (owner_at s (handle_at (directories told.call) place).ino)
+    (look_tests place (look_refusal (copies s) told.call)) (seen_at (directories told.call) place (looked (copies s) told.call) r.looked)
+    place s h r ≡ machine.Ends (Err c.in-Err.fault) s h)
+    (sym c.requires.empty)
+    (read_end shared home wide dir.ino (λ cell. cell.now) cell there lent free (machine.Look place) true r empty_hand empty_hand
+    (ap next_of c.requires.next) (Err c.in-Err.fault)
+    (c.in-Err.ensures.turn (numbers_in shared) 0 true by.0 r (ap next_of c.requires.next) by.1 refl (sym c.inodes.ensures)
+    (in_range shared home wide dir.ino (λ cell. cell.now) cell there)))

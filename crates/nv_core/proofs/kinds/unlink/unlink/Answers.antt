@@ -1,24 +1,33 @@
-use Rattle.std.proofs.Common.{◌≡◌, ℕ, ap, slice_set}
-use Rattle.nv_machine.specs.World.{cell_at}
-use Rattle.nv_core.specs.Shown.{shared_of, shown}
-use Rattle.nv_core.proofs.Cleanings.{unlink_turns, unlinked_below}
+use Rattle.std.proofs.Common.{◌≡◌, ◌∙◌, ℕ, true, ap, refl, slice_set, subst, sym}
+use Rattle.nv_machine.specs.World as machine
+use Rattle.nv_machine.specs.World.{Moves}
+use Rattle.nv_core.specs.Shown.{hand_of, shown}
+use Rattle.nv_core.proofs.LentCells.{numbers_in, unlinked_here, with_cells}
 use Rattle.nv_core.proofs.Settled.{cell_there}
+use Rattle.nv_alloc.specs.declared.hand.Hand.{Hand}
+use Rattle.nv_core.specs.Rooms.{IsHandOf}
+use Rattle.nv_core.proofs.HeldRooms.{can_end}
 use Rattle.nv_core.proofs.kinds.unlink.unlink.Goals as goal
-
-here : (c : goal.After-end-arg-1) → cell_at (shared_of c.args.shared.now) c.args.plan.ino ≡ c.index_mut.result.now.state
-here c =
-    cell_there c.args.shared.now.cells.items c.args.plan.ino c.index_mut.result.now c.requires.can.slot
-    (rw c.number.ensures at c.index_mut.ensures.value)
-
-pub end-requires-clause-device : goal.end-requires-clause-device
-end-requires-clause-device c =
-    unlinked_below c.args.shared.now.geometry.numbers.blocks c.args.hand.now c.fast_on-cleaned.new.hand c.args.plan.walk
-    c.index_mut.result.now.state c.fast_on-cleaned.ensures.hand c.requires.empty (rw (here c) at c.requires.can.chain)
 
 pub returns-clause-turn : goal.returns-clause-turn
 returns-clause-turn c told =
-    unlink_turns c.args.shared.now c.args.plan.ino c.index_mut.result.now.state c.args.hand.now c.fast_on-cleaned.new.hand _
-    c.fast_on-cleaned.new.cell c.fast_on-cleaned.result (shown told c.args.running.now) _
-    (ap (λ (n : ℕ). slice_set c.args.shared.now.cells.items n c.fast_on-cleaned.new.cell) c.number.ensures) (here c.before)
-    c.args.plan.walk (rw (here c.before) at c.requires.plan.walk) c.fast_on-cleaned.ensures.cell c.fast_on-cleaned.ensures.hand
-    c.fast_on-cleaned.ensures.answer (c.end.ensures.turn told (λ answers. absurd (cc)))
+    let shared = c.args.shared.now in
+    let ino = c.args.plan.ino in
+    let r = shown told c.args.running.now in
+    let new = c.unlink-cleaned.new.cell in
+    let cells = slice_set shared.cells.items c.number.result new in
+    let here =
+    cell_there shared.cells.items ino c.index_mut.result.now c.requires.can.slot (rw c.number.ensures at c.index_mut.ensures.value) in
+    unlinked_here shared c.requires.home c.requires.wide ino c.index_mut.result.now.state here c.requires.can.slot r
+    (hand_of c.args.hand.now) (hand_of c.unlink-cleaned.new.hand) new cells
+    (ap (λ (n : ℕ). slice_set shared.cells.items n new) c.number.ensures) c.unlink-cleaned.result
+    (c.unlink-cleaned.ensures.turn (numbers_in shared) 0 ino true (machine.go_to (machine.SnapshotOrCleaner (machine.Unlink ino)) r)
+    (record { next = refl; slots = c.requires.slots }))
+    ∙ ap (λ (q : machine.Running). Moves (with_cells cells shared) (hand_of c.unlink-cleaned.new.hand) q)
+    (sym (c.unlock_first.ensures.ends told))
+
+pub returns-clause-rooms : goal.returns-clause-rooms
+returns-clause-rooms c =
+    c.unlock_first.ensures.rooms _ c.unlink-cleaned.new.hand (can_end c.args.running.now _ c.requires.call.request (λ same. absurd (cc)))
+    (subst (λ (h : Hand). IsHandOf c.args.shared.now.geometry.numbers h) (sym c.unlink-cleaned.ensures.hand)
+    (record { blocks = c.requires.sized.blocks; pages = c.requires.sized.pages })) tt

@@ -3,7 +3,7 @@ use Rattle.std.specs.Prelude.{IfOk}
 use Rattle.nv_entry.specs.declared.node.NodeCopy.{NodeCopy}
 use Rattle.nv_machine.specs.World.{cell_at}
 use Rattle.nv_reader.specs.Nodes.{IsWhole}
-use Rattle.nv_core.proofs.Copies.{bytes_at, copy_lent, whole_lent}
+use Rattle.nv_steps.proofs.Copies.{bytes_at, copy_lent, whole_lent}
 use Rattle.nv_core.specs.Shown.{shared_of}
 use Rattle.nv_core.proofs.shared.Shared.node_at.Goals as goal
 
@@ -14,6 +14,6 @@ returns-clause-ok c =
     let whole : IsWhole (bytes_at s handle.ino) c.args.epoch (cell_at s handle.ino) =
     record { own = c.requires.own handle.ino; pages = c.requires.pages handle.ino } in
     subst (λ (n : Option NodeCopy). IfOk c.copy_on.result (λ node. node ≡ n))
-    (copy_lent s c.args.epoch handle (λ cell. cell.now) c.cell.result c.cell.ensures)
+    (copy_lent s c.args.epoch handle (λ cell. cell.now) c.cell.result c.cell.ensures.cell)
     (c.copy_on.ensures.ok (bytes_at s handle.ino)
-    (whole_lent s c.args.epoch handle.ino (λ cell. cell.now) c.cell.result c.cell.ensures whole))
+    (whole_lent s c.args.epoch handle.ino (λ cell. cell.now) c.cell.result c.cell.ensures.cell whole))
