@@ -24,14 +24,14 @@ abbrev pub form : ℕ → ℕ → Tail → Form
 form number fields tail = record { number = number; fields = fields; tail = tail }
 
 -- the operations that are read, as protocol 7.31 numbers them. In the order of their numbers: Lookup, Forget,
--- GetAttributes, SetAttributes, Mknod, Mkdir, Unlink, Rmdir, Rename, Open, Read, Write, Statfs, Release, Fsync,
+-- GetAttributes, SetAttributes, Mknod, Mkdir, Unlink, Rmdir, Rename, Link, Open, Read, Write, Statfs, Release, Fsync,
 -- Flush, Init, OpenDirectory, ReadDirectory, ReleaseDirectory, FsyncDirectory, Create, Destroy, ForgetMany,
 -- Fallocate, Rename2.
 abbrev pub forms : List Form
 forms =
     form 1 0 a_name ∷ form 2 8 nothing ∷ form 3 16 nothing ∷ form 4 88 nothing
     ∷ form 8 16 a_name ∷ form 9 8 a_name ∷ form 10 0 a_name ∷ form 11 0 a_name ∷ form 12 8 two_names
-    ∷ form 14 8 nothing ∷ form 15 40 nothing ∷ form 16 40 contents ∷ form 17 0 nothing
+    ∷ form 13 8 a_name ∷ form 14 8 nothing ∷ form 15 40 nothing ∷ form 16 40 contents ∷ form 17 0 nothing
     ∷ form 18 24 nothing ∷ form 20 16 nothing ∷ form 25 24 nothing ∷ form 26 16 nothing
     ∷ form 27 8 nothing ∷ form 28 40 nothing ∷ form 29 24 nothing ∷ form 30 16 nothing
     ∷ form 35 16 a_name ∷ form 38 0 nothing ∷ form 42 8 nothing ∷ form 43 32 nothing ∷ form 45 16 two_names ∷ []

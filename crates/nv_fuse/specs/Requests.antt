@@ -4,7 +4,7 @@ use Rattle.nv_fuse.specs.Fields.{behind_name, field, name_of}
 use Rattle.nv_fuse.specs.Forms.{fits_form}
 use Rattle.nv_fuse.specs.declared.header.Header.{Header}
 use Rattle.nv_fuse.specs.declared.operation.Operation.{Operation}
-use Rattle.nv_fuse.specs.declared.operation.Operation.TheVariants.{Init, Destroy, Statfs, Lookup, Forget, ForgetMany, Mknod, Mkdir, Unlink, Rmdir, Rename, Rename2, Create, GetAttributes, SetAttributes, Open, Read, Write, Flush, Fsync, Release, Fallocate, OpenDirectory, ReadDirectory, FsyncDirectory, ReleaseDirectory, Malformed, Other}
+use Rattle.nv_fuse.specs.declared.operation.Operation.TheVariants.{Init, Destroy, Statfs, Lookup, Forget, ForgetMany, Mknod, Mkdir, Unlink, Rmdir, Rename, Rename2, Link, Create, GetAttributes, SetAttributes, Open, Read, Write, Flush, Fsync, Release, Fallocate, OpenDirectory, ReadDirectory, FsyncDirectory, ReleaseDirectory, Malformed, Other}
 
 -- the 40 bytes that a request begins with: its length at 0 (4 bytes), and these fields. The last four bytes are not
 -- read.
@@ -66,6 +66,8 @@ HasFields number body (Rename2 to flags old new) =
     × (flags ≡ field 8 4 body)
     × (old.now ≡ name_of (drop 16 body))
     × (new.now ≡ name_of (behind_name (drop 16 body)))
+HasFields number body (Link linked name) =
+    (number ≡ 13) × (linked ≡ field 0 8 body) × (name.now ≡ name_of (drop 8 body))
 HasFields number body (Create flags mode umask name) =
     (number ≡ 35)
     × (flags ≡ field 0 4 body)

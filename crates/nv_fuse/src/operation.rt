@@ -58,6 +58,11 @@ pub enum Operation<'a> {
         old: &'a [u8],
         new: &'a [u8],
     },
+    /// One more name in the header's directory, of the node `linked`.
+    Link {
+        linked: u64,
+        name: &'a [u8],
+    },
     /// A new file, which is opened.
     Create {
         flags: u32,

@@ -23,6 +23,7 @@ pub(crate) fn body(number: u32, body: &[u8]) -> Operation<'_>
         10 => names::unlink(body),
         11 => names::rmdir(body),
         12 => names::rename(body),
+        13 => names::link(body),
         14 => files::open(body),
         15 => files::read(body),
         16 => files::write(body),

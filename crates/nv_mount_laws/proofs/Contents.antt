@@ -1,46 +1,36 @@
--- Requests that change what stands in files, or modes, leave hidden files hidden.
-use Rattle.std.proofs.Common.{◌≡◌, ◌≢◌, ◌∙◌, ◌^◌, ◌<◌, inl, inr, ◌==◌, ℕ, Bool, true, false, List, [], ◌∷◌, Option, Some, None, Result, Ok, Err, ap, arith, length, refl, subst, sym}
-use Rattle.std.specs.Prelude.{if◌then◌else◌, nat_le, nat_lt, option_map}
+-- Calls that change what stands in one node alone, and requests that make such calls alone.
+use Rattle.std.proofs.Common.{[], ◌∙◌, ◌∷◌, ◌≡◌, ◌≢◌, ◌⊎◌, Bool, Err, List, None, Ok, Option, Result, Some, ap, arith, false, inl, inr, length, refl, subst, sym, true, ℕ}
+use Rattle.std.specs.Prelude.{if◌then◌else◌, option_map}
 use Rattle.nv_base.specs.declared.fault.Fault.{Fault}
 use Rattle.nv_base.specs.declared.numbers.Handle.{Handle}
 use Rattle.nv_calls.specs.Plain.{change, same_handle, with_mode}
 use Rattle.nv_calls.specs.Refusals.{kind_of, lookup}
 use Rattle.nv_calls.specs.calls.Size.{resized_node}
-use Rattle.nv_calls.specs.calls.Write.{text_refusal}
 use Rattle.nv_calls.specs.declared.answer.Answer.{Answer}
 use Rattle.nv_calls.specs.declared.call.Call.{Call}
 use Rattle.nv_calls.specs.declared.call.Call.TheVariants as calls
-use Rattle.nv_calls.proofs.Passed.{file_passed}
 use Rattle.nv_entry.specs.Index.{bound_to}
 use Rattle.nv_entry.specs.Sound.{rewritten}
 use Rattle.nv_entry.specs.Tree.{names_of_node, root}
 use Rattle.nv_entry.specs.declared.node.NodeCopy.{NodeCopy}
 use Rattle.nv_effects.specs.Effects.{HasEffect, changed}
 use Rattle.nv_effects.proofs.Effects.{calls_have_effects}
-use Rattle.nv_fuse.specs.declared.errno.Errno.TheVariants as errno
-use Rattle.nv_mount_answers.specs.declared.kept.Shape.{Shape}
-use Rattle.nv_mount_answers.specs.declared.kept.Time.{Time}
-use Rattle.nv_mount_beside.specs.Names.{hidden, node_named, or_refused, refused}
-use Rattle.nv_mount_beside.specs.declared.outcome.Outcome.{Outcome}
-use Rattle.nv_mount_beside.specs.declared.outcome.Outcome.TheVariants as outcomes
+use Rattle.nv_mount_beside.specs.Names.{hidden, node_named}
 use Rattle.nv_mount_beside.specs.declared.refusal.Refusal.{Refusal}
-use Rattle.nv_mounted.specs.Asks.{ask, ask_done, ask_shape}
-use Rattle.nv_mounted.specs.Contents.{count_told, fallocate, write_bytes}
-use Rattle.nv_mounted.specs.Dialogues.{Asks, Dialogue, Ends, Grows, IsHad, ◌>>=◌}
-use Rattle.nv_mounted.specs.Side.{touched}
+use Rattle.nv_mounted.specs.Dialogues.{◌>>=◌, Asks, Dialogue, Ends, Grows, IsHad}
 use Rattle.nv_mounted.specs.declared.side.Side.{Side}
 use Rattle.nv_serial.specs.OneCall.{serial_call}
 use Rattle.nv_serial.specs.Serial.{Serial, copies_now, told}
+use Rattle.nv_mounted.specs.Side.{at_node, with_side}
 use Rattle.nv_mount_laws.specs.Hidden.{AreHidden, KeepsHidden}
-use Rattle.nv_mount_laws.specs.World.{CanStand, Calls}
-use Rattle.nv_mount_laws.proofs.Asked.{Answered, done_asked, shape_asked}
-use Rattle.nv_mount_laws.proofs.Dialogues.{side_told, went_on}
+use Rattle.nv_mount_laws.specs.World.{Calls, CanStand}
+use Rattle.nv_mount_laws.specs.Open.{LeavesOpens, LeavesOtherFiles}
 use Rattle.nv_mount_laws.proofs.Effects.{changed_later}
-use Rattle.nv_mount_laws.proofs.Flags.{KeepsFlags, touched_keeps}
-use Rattle.nv_mount_laws.proofs.HiddenKept.{KeepsHiddenFlags, hidden_flags, hidden_there, there_by}
-use Rattle.nv_mount_laws.proofs.RefusedBytes.{fallocate_refused, grows, write_refused}
+use Rattle.nv_mount_laws.proofs.Flags.{KeepsFlags}
+use Rattle.nv_mount_laws.proofs.HiddenKept.{KeepsHiddenFlags, hidden_flags, hidden_there, same_hidden_flags, there_by}
 use Rattle.nv_mount_laws.proofs.Standing.{IsWell, stands_well}
-use Rattle.nv_mount_laws.proofs.Stays.{keeps_hidden}
+use Rattle.nv_mount_laws.proofs.Stays.{stands_after, stays}
+use Rattle.nv_mount_laws.proofs.Dialogues.{GoesOn, Stops, parts}
 
 -- kinds and names stay
 pub record KeepsNames (old new : Serial) : Type 0 where
@@ -101,6 +91,7 @@ contents_hidden old new side new_side was well keeps flags =
             nameless = flags.nameless handle there.0 there.1 ∙ stood.nameless;
             numbered = stood.numbered;
           };
+      numbered = λ handle nameless. was.numbered handle (flags.unnamed handle nameless);
       rows = (let less = was.rows in let many = keeps.slots in let rows =
           flags.rows in omega (arith, less, many, rows));
     }
@@ -157,6 +148,7 @@ IsOf handle (calls.Read file offset count) = Unit {0}
 IsOf handle (calls.Stat file) = Unit {0}
 IsOf handle (calls.List dir) = Unit {0}
 IsOf handle (calls.Lookup dir name) = Unit {0}
+IsOf handle (calls.Write file offset text) = file ≡ handle
 IsOf handle (calls.Size file size) = file ≡ handle
 IsOf handle (calls.Mode file mode) = file ≡ handle
 IsOf handle other = ⊥
@@ -189,6 +181,14 @@ content_others old new at f content each slots = record {
   others = λ h differ. each h ∙ changed_later at f [] (copies_now old) h differ;
 }
 
+pub write_others : (old new : Serial) (file : Handle) (offset : ℕ) (text : List ℕ) (made : Handle)
+    (a : Answer)
+    → HasEffect old 0 (calls.Write file offset text) made a new → KeepsOthers file old new
+write_others old new file offset [] made a has = same_others file old new (has.same refl)
+write_others old new file offset (byte ∷ rest) made a has =
+    content_others old new file (option_map (rewritten offset (byte ∷ rest)))
+    (content_rewritten offset (byte ∷ rest)) has.nodes has.slots
+
 of_keeps : (handle : Handle) (c : Call) (old new : Serial) (a : Answer) → IsOf handle c
     → serial_call old 0 c ≡ told a new
     → KeepsOthers handle old new
@@ -204,6 +204,10 @@ of_keeps handle (calls.List dir) old new a of is =
 of_keeps handle (calls.Lookup dir name) old new a of is =
     same_others handle old new ((calls_have_effects old new 0 (calls.Lookup dir name) a refl
     is).1.same refl)
+of_keeps handle (calls.Write file offset text) old new a of is =
+    let has = calls_have_effects old new 0 (calls.Write file offset text) a refl is in
+    subst (λ (h : Handle). KeepsOthers h old new) of
+    (write_others old new file offset text has.0 a has.1)
 of_keeps handle (calls.Size file size) old new a of is =
     let has = calls_have_effects old new 0 (calls.Size file size) a refl is in
     subst (λ (h : Handle). KeepsOthers h old new) of
@@ -251,146 +255,69 @@ both_of handle (Grows rest) next first after = both_of handle rest next first af
 both_of handle (Asks call rest) next first after =
     (first.0, λ answer. both_of handle (rest answer) next (first.1 answer) after)
 
--- ---- writes
+pub chosen_of : {A : Type 0} (handle : Handle) (b : Bool) (one other : Dialogue A)
+    → OnlyOf handle one → OnlyOf handle other
+    → OnlyOf handle (if b then one else other)
+chosen_of handle true one other first second = first
+chosen_of handle false one other first second = second
 
-no_value : {A P : Type 0} {a : A} {why : Refusal} → Ok a ≡ Err why → P
-no_value e = cc
+-- ---- laws of them
 
-counted : (old new : Serial) (c : Call) (count : ℕ)
-    → IsHad Calls (Grows (ask c count_told)) old (Ok count) new → Answered old c new
-counted old new c count (inl had) = no_value had.0
-counted old new c count (inr (Ok a, between, called, (is, same))) = record {
-  answer = a;
-  is = called.answered ∙ ap (λ (s : Serial). told a s) (sym same);
-  stands = subst CanStand (sym same) called.stands;
-}
-counted old new c count (inr (Err why, between, called, (is, same))) = no_value is
+module _ {A : Type 0} (side : Side) (number : ℕ) (next : Handle → Dialogue (A × Side)) where
+  abbrev request : Dialogue (A × Side)
+  request = Ends (node_named number) >>= next
 
-write_keeps : (old new : Serial) (file : Handle) (offset : ℕ) (text : List ℕ) (made : Handle)
-    (a : Answer)
-    → HasEffect old 0 (calls.Write file offset text) made a new → KeepsNames old new
-write_keeps old new file offset [] made a has = same_names old new (has.same refl)
-write_keeps old new file offset (byte ∷ rest) made a has =
-    content_keeps old new file (option_map (rewritten offset (byte ∷ rest)))
-    (content_rewritten offset (byte ∷ rest)) has.nodes has.slots
+  -- a request that changes what stands in the node that it names leaves all other files
+  pub others_stay : ((handle : Handle) → OnlyOf handle (next handle))
+      → LeavesOtherFiles request side number
+  others_stay each old new new_side result stands does handle node is kind other =
+      stays old new handle node
+      (stands_after request old new (with_side new_side result) stands does.had) is kind
+      (go (parts Calls next (Ends (node_named number)) old new (with_side new_side result)
+      does.had)) where
+        go : GoesOn Calls next (Ends (node_named number)) old (with_side new_side result) new
+            ⊎ Stops Calls next (Ends (node_named number)) old (with_side new_side result) new
+            → copies_now new handle ≡ Some node
+        go (inl on) =
+            let keeps = only_keeps on.value (next on.value) (each on.value) on.between new
+            (with_side new_side result) on.then in
+            let differ : handle ≢ on.value = (λ same. other
+            (sym on.first.0 ∙ ap (λ (h : Handle). Ok h) (sym same))) in
+            keeps.others handle differ ∙ ap (λ (s : Serial). copies_now s handle) on.first.1 ∙ is
+        go (inr stop) = ap (λ (s : Serial). copies_now s handle) stop.first.1 ∙ is
 
-module _ (side : Side) (now : Time) (number offset : ℕ) (bytes : List ℕ)
-    (small : length bytes < 2 ^ 32) where
-  pub writes_keep : KeepsHidden (write_bytes side now number offset bytes) side
-  writes_keep =
-      keeps_hidden (write_bytes side now number offset bytes) side
-      (write_refused side now number offset bytes small)
-      (λ old new new_side outcome stands was had.
-      let a = went_on Calls _ (Ends (node_named number)) old new (outcome, new_side) had in
-      let file = a.value in
-      let b = went_on Calls _ (Grows (ask (calls.Write file offset bytes) count_told)) a.between new
-      (outcome, new_side) a.then in
-      let asked = counted a.between b.between (calls.Write file offset bytes) b.value b.first in
-      let at : Answered old (calls.Write file offset bytes) new =
-      subst (λ (s : Serial). Answered s (calls.Write file offset bytes) new) a.first.1
-      (subst (λ (s : Serial). Answered a.between (calls.Write file offset bytes) s) (sym b.then.1)
-      asked) in
-      let has = calls_have_effects old new 0 (calls.Write file offset bytes) at.answer refl at.is in
-      let there = (file_passed (copies_now old file) (text_refusal old.numbers.block offset bytes)
-      has.1.unrefused).0 in
-      let well = stands_well old stands in
-      let after : new_side ≡ touched now file side =
-      side_told outcome (outcomes.Written b.value) new_side (touched now file side) b.then.0 in
-      let flags : KeepsFlags old side new_side =
-      subst (λ (s : Side). KeepsFlags old side s) (sym after)
-      (touched_keeps old well side was.rows now file there.node there.is) in
-      contents_hidden old new side new_side was well
-      (write_keeps old new file offset bytes has.0 at.answer has.1)
-      (hidden_flags old side new_side flags))
+  -- it leaves kinds and names
+  pub names_stay : ((handle : Handle) → OnlyOf handle (next handle)) → (old new : Serial)
+      (end : Result (A × Side) Refusal) → IsHad Calls request old end new → KeepsNames old new
+  names_stay each old new end had =
+      go (parts Calls next (Ends (node_named number)) old new end had) where
+        go : GoesOn Calls next (Ends (node_named number)) old end new
+            ⊎ Stops Calls next (Ends (node_named number)) old end new → KeepsNames old new
+        go (inl on) =
+            subst (λ (s : Serial). KeepsNames s new) on.first.1
+            (only_keeps on.value (next on.value) (each on.value) on.between new end on.then).names
+        go (inr stop) = same_names old new stop.first.1
 
--- ---- fallocate
+  -- and hidden files, where it says the same of opens and of names beside the world
+  pub names_hidden : ((handle : Handle) → OnlyOf handle (next handle))
+      → ((old new : Serial) (new_side : Side) (a : A) → CanStand old → AreHidden old side
+      → IsHad Calls request old (Ok (a, new_side)) new → KeepsFlags old side new_side)
+      → KeepsHidden request side
+  names_hidden each flags old new new_side (Ok a) stands was does =
+      contents_hidden old new side new_side was (stands_well old stands)
+      (names_stay each old new (Ok (a, new_side)) does.had)
+      (hidden_flags old side new_side (flags old new new_side a stands was does.had))
+  names_hidden each flags old new new_side (Err why) stands was does =
+      contents_hidden old new side new_side was (stands_well old stands)
+      (names_stay each old new (Err why) does.had)
+      (same_hidden_flags old side new_side does.same)
 
-module _ (side : Side) (now : Time) (number : ℕ) (end : Option ℕ) (mode : ℕ) where
-  grown_hidden : (old new : Serial) (new_side : Side) (outcome : Outcome) (file : Handle) (size : ℕ)
-      → CanStand old → AreHidden old side
-      → IsHad Calls (grows side now file size) old (Ok (outcome, new_side)) new
-      → AreHidden new new_side
-  grown_hidden old new new_side outcome file size stands was had =
-      let a = went_on Calls _ (ask_done (calls.Size file size)) old new (outcome, new_side) had in
-      let asked = done_asked old a.between (calls.Size file size) a.value a.first in
-      let at : Answered old (calls.Size file size) new =
-      subst (λ (s : Serial). Answered old (calls.Size file size) s) (sym a.then.1) asked in
-      let has = calls_have_effects old new 0 (calls.Size file size) at.answer refl at.is in
-      let there = (file_passed (copies_now old file) _ has.1.unrefused).0 in
-      let well = stands_well old stands in
-      let after : new_side ≡ touched now file side =
-      side_told outcome outcomes.Done new_side (touched now file side) a.then.0 in
-      let flags : KeepsFlags old side new_side =
-      subst (λ (s : Side). KeepsFlags old side s) (sym after)
-      (touched_keeps old well side was.rows now file there.node there.is) in
-      contents_hidden old new side new_side was well
-      (content_keeps old new file (option_map (resized_node size)) (content_resized size)
-      has.1.nodes has.1.slots)
-      (hidden_flags old side new_side flags)
-
-  -- nothing is to be done
-  abbrev still : Dialogue (Outcome × Side)
-  still = Ends (Ok (outcomes.Done, side))
-
-  stays_hidden : (old new : Serial) (new_side : Side) (outcome : Outcome) → AreHidden old side
-      → IsHad Calls still old (Ok (outcome, new_side)) new → AreHidden new new_side
-  stays_hidden old new new_side outcome was had =
-      let after : new_side ≡ side = side_told outcome outcomes.Done new_side side had.0 in
-      subst (λ (s : Serial). AreHidden s new_side) (sym had.1)
-      (subst (λ (t : Side). AreHidden old t) (sym after) was)
-
-  -- a longer file, or one that is long enough
-  abbrev by_size : Handle → ℕ → Shape → Dialogue (Outcome × Side)
-  by_size file size shape = if nat_le size shape.size then still else grows side now file size
-
-  abbrev by_mode : Handle → ℕ → Dialogue (Outcome × Side)
-  by_mode file size = if mode == 1 then still else ask_shape file >>= by_size file size
-
-  abbrev by_end : Handle → Dialogue (Outcome × Side)
-  by_end file = Ends (or_refused errno.FileTooBig end) >>= by_mode file
-
-  sized : (old new : Serial) (new_side : Side) (outcome : Outcome) (file : Handle) (size : ℕ)
-      (b : Bool) → CanStand old → AreHidden old side
-      → IsHad Calls (if b then still else grows side now file size) old (Ok (outcome, new_side)) new
-      → AreHidden new new_side
-  sized old new new_side outcome file size true stands was had =
-      stays_hidden old new new_side outcome was had
-  sized old new new_side outcome file size false stands was had =
-      grown_hidden old new new_side outcome file size stands was had
-
-  moded : (old new : Serial) (new_side : Side) (outcome : Outcome) (file : Handle) (size : ℕ)
-      (b : Bool) → CanStand old → AreHidden old side
-      → IsHad Calls (if b then still else ask_shape file >>= by_size file size) old
-      (Ok (outcome, new_side)) new
-      → AreHidden new new_side
-  moded old new new_side outcome file size true stands was had =
-      stays_hidden old new new_side outcome was had
-  moded old new new_side outcome file size false stands was had =
-      let a = went_on Calls (by_size file size) (ask_shape file) old new (outcome, new_side) had in
-      let same = (shape_asked old a.between file a.value a.first).1 in
-      sized old new new_side outcome file size (nat_le size a.value.size) stands was
-      (subst (λ (s : Serial). IsHad Calls (by_size file size a.value) s (Ok (outcome, new_side))
-      new) same a.then)
-
-  ended : (old new : Serial) (new_side : Side) (outcome : Outcome) (file : Handle) (b : Bool)
-      → CanStand old → AreHidden old side
-      → IsHad Calls (if b then Ends (refused errno.NotSupported) else by_end file) old
-      (Ok (outcome, new_side)) new → AreHidden new new_side
-  ended old new new_side outcome file true stands was had = no_value had.0
-  ended old new new_side outcome file false stands was had =
-      let a = went_on Calls (by_mode file) (Ends (or_refused errno.FileTooBig end)) old new
-      (outcome, new_side) had in
-      moded old new new_side outcome file a.value (mode == 1) stands was
-      (subst (λ (s : Serial). IsHad Calls (by_mode file a.value) s (Ok (outcome, new_side)) new)
-      a.first.1 a.then)
-
-  pub fallocates_keep : KeepsHidden (fallocate side now number end mode) side
-  fallocates_keep =
-      keeps_hidden (fallocate side now number end mode) side
-      (fallocate_refused side now number end mode)
-      (λ old new new_side outcome stands was had.
-      let a = went_on Calls _ (Ends (node_named number)) old new (outcome, new_side) had in
-      ended old new new_side outcome a.value (nat_lt 1 mode) stands was
-      (subst (λ (s : Serial). IsHad Calls (if nat_lt 1 mode then Ends (refused errno.NotSupported)
-      else by_end a.value) s (Ok (outcome, new_side)) new)
-      a.first.1 a.then))
+-- a request that says the same of opens beside the world leaves each node as often open
+pub flags_count : {A : Type 0} (talk : Dialogue (A × Side)) (side : Side)
+    → ((old new : Serial) (new_side : Side) (a : A) → CanStand old → AreHidden old side
+    → IsHad Calls talk old (Ok (a, new_side)) new → KeepsFlags old side new_side)
+    → LeavesOpens talk side
+flags_count talk side flags old new new_side (Ok a) stands was does handle node is =
+    ((flags old new new_side a stands was does.had).there handle node is).opens
+flags_count talk side flags old new new_side (Err why) stands was does handle node is =
+    ap (λ (s : Side). (at_node s handle).opens) does.same

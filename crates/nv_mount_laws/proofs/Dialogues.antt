@@ -22,6 +22,12 @@ pub side_told : {A B : Type 0} (a c : A) (b d : B) → AreSame {A = A × B} (Ok 
 side_told {A} {B} a c b d same =
     let there : A × B = (a, b) in ap (λ (r : Result (A × B) Refusal). (value_of there r).1) same
 
+-- what is told then
+pub first_told : {A B : Type 0} (a c : A) (b d : B) → AreSame {A = A × B} (Ok (a, b)) (Ok (c, d))
+    → a ≡ c
+first_told {A} {B} a c b d same =
+    let there : A × B = (a, b) in ap (λ (r : Result (A × B) Refusal). (value_of there r).0) same
+
 no_value : {A : Type 0} {P : Type 0} {a : A} {refusal : Refusal} → Ok a ≡ Err refusal → P
 no_value e = cc
 

@@ -75,8 +75,6 @@ pub same_bound : (nodes after : Handle → Option NodeCopy) (dir : Handle) (name
 same_bound nodes after dir name is = ap (λ (n : Option NodeCopy). bound_to name (names_of_node n))
     is
 
--- ---- a name leaves
-
 no_node : {A P : Type 0} {a : A} → None ≡ Some a → P
 no_node e = cc
 
@@ -119,6 +117,8 @@ pub record KeepsHiddenFlags (s : Serial) (old new : Side) : Type 0 where
   pub before : (handle : Handle) → (at_node new handle).nameless ≡ true
       → 0 < (at_node new handle).opens
       → ((at_node old handle).nameless ≡ true) × (0 < (at_node old handle).opens)
+  pub unnamed : (handle : Handle) → (at_node new handle).nameless ≡ true
+      → (at_node old handle).nameless ≡ true
 
 pub hidden_flags : (s : Serial) (old new : Side) → KeepsFlags s old new → KeepsHiddenFlags s old new
 hidden_flags s old new flags = record {
@@ -130,6 +130,7 @@ hidden_flags s old new flags = record {
   before = λ handle nameless opened.
       let same = flags.before handle nameless in
       (sym same.nameless ∙ nameless, subst (λ (k : ℕ). 0 < k) same.opens opened);
+  unnamed = λ handle nameless. sym (flags.before handle nameless).nameless ∙ nameless;
 }
 
 pub same_hidden_flags : (s : Serial) (old new : Side) → new ≡ old → KeepsHiddenFlags s old new
@@ -165,8 +166,72 @@ flags_hidden s side new_side was well flags =
             nameless = flags.nameless handle there.0 there.1 ∙ stood.nameless;
             numbered = stood.numbered;
           };
+      numbered = λ handle nameless. was.numbered handle (flags.unnamed handle nameless);
       rows = (let less = was.rows in let rows = flags.rows in omega (arith, less, rows));
     }
+
+-- ---- what changes elsewhere
+
+module _ (old new : Serial) (side new_side : Side) (was : AreHidden old side) (well : IsWell old)
+    (place : lookup (copies_now new) root hidden ≡ lookup (copies_now old) root hidden)
+    (same_directory : copies_now new side.hidden ≡ copies_now old side.hidden)
+    (before : (handle : Handle) (n : NodeCopy) → copies_now new handle ≡ Some n
+    → (at_node new_side handle).nameless ≡ true → (m : NodeCopy) × (copies_now old handle ≡ Some m))
+    (after : (handle : Handle) → (at_node side handle).nameless ≡ true
+    → 0 < (at_node side handle).opens
+    → kind_of (copies_now new handle) ≡ kind_of (copies_now old handle))
+    (slots : length new.slots ≡ length old.slots) (flags : KeepsFlags old side new_side) where
+  same_names : (more : List ℕ) → lookup (copies_now new) side.hidden more
+      ≡ lookup (copies_now old) side.hidden more
+  same_names more = same_bound (copies_now old) (copies_now new) side.hidden more same_directory
+
+  hidden_is : side.hidden ≡ new_side.hidden
+  hidden_is = sym flags.hidden
+
+  -- THE HIDDEN FILES stay so where their names stay, and each of them is there still
+  pub elsewhere_hidden : AreHidden new new_side
+  elsewhere_hidden = record {
+    place = place ∙ was.place ∙ ap (λ (h : Handle). Some h) hidden_is;
+    directory = ap (λ (h : Handle). kind_of (copies_now new h)) flags.hidden
+        ∙ ap kind_of same_directory ∙ was.directory;
+    stands = λ handle n is nameless.
+        let there = before handle n is nameless in
+        let stood = was.stands handle there.0 there.1
+        (sym (flags.there handle there.0 there.1).nameless ∙ nameless) in
+        record {
+          name = stood.name;
+          numbered = stood.numbered;
+          bound = ap (λ (h : Handle). lookup (copies_now new) h stood.name) flags.hidden
+              ∙ same_names stood.name ∙ stood.bound;
+        };
+    kept = λ handle nameless opened.
+        let same = flags.before handle nameless in
+        let nameless_before = sym same.nameless ∙ nameless in
+        let open_before : 0 < (at_node side handle).opens =
+        subst (λ (n : ℕ). 0 < n) same.opens opened in
+        let there = was.kept handle nameless_before open_before in
+        there_by there.0.kind (copies_now new handle)
+        (after handle nameless_before open_before ∙ ap kind_of there.1);
+    only = λ more handle bound.
+        let bound_before : lookup (copies_now old) side.hidden more ≡ Some handle =
+        sym (same_names more) ∙ ap (λ (h : Handle). lookup (copies_now new) h more) hidden_is
+        ∙ bound in
+        let stood = was.only more handle bound_before in
+        let there = hidden_there old side was well more handle stood in
+        let same = flags.there handle there.0 there.1 in
+        record {
+          file = after handle stood.nameless stood.is_open ∙ stood.file;
+          is_open = subst (λ (n : ℕ). 0 < n) (sym same.opens) stood.is_open;
+          nameless = same.nameless ∙ stood.nameless;
+          numbered = stood.numbered;
+        };
+    numbered = λ handle nameless. was.numbered handle
+        (sym (flags.before handle nameless).nameless ∙ nameless);
+    rows = (let less = was.rows in let many = slots in let rows =
+        flags.rows in omega (arith, less, many, rows));
+  }
+
+-- ---- a name leaves
 
 module _ (old new : Serial) (side new_side : Side) (dir : Handle) (name : List ℕ) (to : Handle)
     (was : AreHidden old side) (well : IsWell old)
@@ -175,10 +240,6 @@ module _ (old new : Serial) (side new_side : Side) (dir : Handle) (name : List �
     (flags : KeepsFlags old side new_side) where
   same_directory : copies_now new side.hidden ≡ copies_now old side.hidden
   same_directory = leaves.same side.hidden (λ same. not_dir (sym same)) (λ same. not_to (sym same))
-
-  same_names : (more : List ℕ) → lookup (copies_now new) side.hidden more
-      ≡ lookup (copies_now old) side.hidden more
-  same_names more = same_bound (copies_now old) (copies_now new) side.hidden more same_directory
 
   still_placed : lookup (copies_now new) root hidden ≡ Some side.hidden
   still_placed = go (one_or_other dir root) where
@@ -231,51 +292,12 @@ module _ (old new : Serial) (side new_side : Side) (dir : Handle) (name : List �
         ∙ ap (λ (h : Handle). kind_of (copies_now old h)) (sym same)
     go (inr differ) = ap kind_of (leaves.same handle differ not_it)
 
-  hidden_is : side.hidden ≡ new_side.hidden
-  hidden_is = sym flags.hidden
-
   -- THE HIDDEN FILES stay so where a name leaves that is none of theirs
   pub leaves_hidden : AreHidden new new_side
-  leaves_hidden = record {
-    place = still_placed ∙ ap (λ (h : Handle). Some h) hidden_is;
-    directory = ap (λ (h : Handle). kind_of (copies_now new h)) flags.hidden
-        ∙ ap kind_of same_directory ∙ was.directory;
-    stands = λ handle n is nameless.
-        let there = before handle n is in
-        let stood = was.stands handle there.0 there.1
-        (sym (flags.there handle there.0 there.1).nameless ∙ nameless) in
-        record {
-          name = stood.name;
-          numbered = stood.numbered;
-          bound = ap (λ (h : Handle). lookup (copies_now new) h stood.name) flags.hidden
-              ∙ same_names stood.name ∙ stood.bound;
-        };
-    kept = λ handle nameless opened.
-        let same = flags.before handle nameless in
-        let nameless_before = sym same.nameless ∙ nameless in
-        let open_before : 0 < (at_node side handle).opens =
-        subst (λ (n : ℕ). 0 < n) same.opens opened in
-        let there = was.kept handle nameless_before open_before in
-        let not_it : handle ≢ to = (λ one. named_to
-        (subst (λ (h : Handle). (at_node side h).nameless ≡ true) one nameless_before)
-        (subst (λ (h : Handle). 0 < (at_node side h).opens) one open_before)) in
-        there_by there.0.kind (copies_now new handle) (after handle not_it ∙ ap kind_of there.1);
-    only = λ more handle bound.
-        let bound_before : lookup (copies_now old) side.hidden more ≡ Some handle =
-        sym (same_names more) ∙ ap (λ (h : Handle). lookup (copies_now new) h more) hidden_is
-        ∙ bound in
-        let stood = was.only more handle bound_before in
-        let there = hidden_there old side was well more handle stood in
-        let same = flags.there handle there.0 there.1 in
-        let not_it : handle ≢ to = (λ one. named_to
-        (subst (λ (h : Handle). (at_node side h).nameless ≡ true) one stood.nameless)
-        (subst (λ (h : Handle). 0 < (at_node side h).opens) one stood.is_open)) in
-        record {
-          file = after handle not_it ∙ stood.file;
-          is_open = subst (λ (n : ℕ). 0 < n) (sym same.opens) stood.is_open;
-          nameless = same.nameless ∙ stood.nameless;
-          numbered = stood.numbered;
-        };
-    rows = (let less = was.rows in let many = leaves.slots in let rows =
-        flags.rows in omega (arith, less, many, rows));
-  }
+  leaves_hidden =
+      elsewhere_hidden old new side new_side was well (still_placed ∙ sym was.place) same_directory
+      (λ handle n is nameless. before handle n is)
+      (λ handle nameless opened. after handle (λ one. named_to
+      (subst (λ (h : Handle). (at_node side h).nameless ≡ true) one nameless)
+      (subst (λ (h : Handle). 0 < (at_node side h).opens) one opened)))
+      leaves.slots flags

@@ -107,9 +107,16 @@ module _ (old new : Serial) (side new_side : Side) (dir : Handle) (name : List �
     kept = λ h nameless opened. kept h nameless opened (one_or_other h handle);
     only = λ other h at. only other h (ap (λ (d : Handle). lookup (copies_now new) d other)
         hidden_same ∙ at) (some_name_or_other more other);
+    numbered = λ h nameless. numbered_so h nameless (one_or_other h handle);
     rows = (let less = was.rows in let many = moves.slots in let rows =
         flags.rows in omega (arith, less, many, rows));
   } where
+    numbered_so : (h : Handle) → (at_node new_side h).nameless ≡ true → (h ≡ handle) ⊎ (h ≢ handle)
+        → (name : List ℕ) × (hidden_name_for h ≡ Ok name)
+    numbered_so h nameless (inl same) = (more, ap hidden_name_for same ∙ numbered)
+    numbered_so h nameless (inr differ) = was.numbered h
+        (sym (flags.before h differ nameless).nameless ∙ nameless)
+
     stands : (h : Handle) (n : NodeCopy) → copies_now new h ≡ Some n → (at_node new_side h).nameless
         ≡ true → (h ≡ handle) ⊎ (h ≢ handle)
         → StandsHidden new new_side h

@@ -1,5 +1,5 @@
 -- A making leaves hidden files hidden.
-use Rattle.std.proofs.Common.{◌≡◌, ◌≢◌, ◌∙◌, ◌<◌, ◌≤◌, ◌⊎◌, inl, inr, ℕ, Bool, true, false, List, [], ◌∷◌, Option, Some, None, Ok, ap, arith, length, refl, subst, sym}
+use Rattle.std.proofs.Common.{◌≡◌, ◌≢◌, ◌∙◌, ◌<◌, ◌≤◌, ◌⊎◌, inl, inr, ℕ, Bool, true, false, List, [], ◌∷◌, Option, Some, None, ap, arith, length, refl, subst, sym}
 use Rattle.std.specs.Prelude.{if◌then◌else◌}
 use Rattle.nv_base.specs.declared.node.Kind.{Kind}
 use Rattle.nv_base.specs.declared.node.Kind.TheVariants as kinds
@@ -18,7 +18,7 @@ use Rattle.nv_effects.specs.Effects.{changed}
 use Rattle.nv_effects.proofs.Effects.{calls_have_effects}
 use Rattle.nv_fuse.specs.declared.header.Header.{Header}
 use Rattle.nv_mount_answers.specs.declared.kept.Time.{Time}
-use Rattle.nv_mount_beside.specs.Names.{free_name, hidden}
+use Rattle.nv_mount_beside.specs.Names.{hidden}
 use Rattle.nv_mount_beside.specs.Beside.{new_beside, opened}
 use Rattle.nv_mount_beside.specs.declared.beside.Beside.{Beside}
 use Rattle.nv_mounted.specs.Makings.{made_beside, making}
@@ -26,12 +26,11 @@ use Rattle.nv_mounted.specs.Side.{at_node, put_node, touched}
 use Rattle.nv_mounted.specs.declared.side.Side.{Side}
 use Rattle.nv_serial.specs.OneCall.{serial_call}
 use Rattle.nv_serial.specs.Serial.{Serial, copies_now, log_in, told}
-use Rattle.nv_mount_laws.specs.Hidden.{AreHidden, StandsHidden}
+use Rattle.nv_mount_laws.specs.Hidden.{AreHidden}
 use Rattle.nv_mount_laws.proofs.Effects.{changed_first, changed_later, kind_is}
-use Rattle.nv_mount_laws.proofs.Flags.{KeepsFlags, one_or_other, touched_keeps}
+use Rattle.nv_mount_laws.proofs.Flags.{KeepsFlags, SameFlags, one_or_other, touched_keeps}
 use Rattle.nv_mount_laws.proofs.Fresh.{from_pool, pool_empty}
-use Rattle.nv_mount_laws.proofs.HiddenKept.{arrived_bound, hidden_there, named_kind, same_bound, there_by}
-use Rattle.nv_mount_laws.proofs.OtherRequests.{not_reserved}
+use Rattle.nv_mount_laws.proofs.HiddenKept.{arrived_bound, arrived_last, elsewhere_hidden, named_kind, same_bound, there_by}
 use Rattle.nv_mount_laws.proofs.Rows.{Elsewhere, Here, Place, Stale, many_rows, place, put_elsewhere, put_here}
 use Rattle.nv_mount_laws.proofs.Standing.{IsWell}
 
@@ -120,12 +119,82 @@ made_by old new well kinds.Dir dir name mode made is =
     []) (copies_now old) handle)
     same has.1.nodes)
 
-module _ (old new : Serial) (side : Side) (was : AreHidden old side) (well : IsWell old)
-    (well_new : IsWell new) (kind : Kind)
-    (dir : Handle) (file name : List ℕ) (mode : ℕ) (made : Handle)
-    (makes : Makes old new kind dir name mode made)
-    (not_dir : dir ≢ side.hidden) (free : free_name dir file ≡ Ok name) (now : Time)
-    (header : Header) (opens : Bool) where
+-- what is made has its name
+pub made_named : (old new : Serial) (kind : Kind) (dir : Handle) (name : List ℕ) (mode : ℕ)
+    (made : Handle) → Makes old new kind dir name mode made
+    → lookup (copies_now new) dir name ≡ Some made
+made_named old new kind dir name mode made makes =
+    arrived_last (copies_now old) (copies_now new) dir name made makes.dir_is makes.arrived
+
+-- ---- the hidden files
+
+module _ (old new : Serial) (kind : Kind) (dir : Handle) (name : List ℕ) (mode : ℕ) (made : Handle)
+    (makes : Makes old new kind dir name mode made) where
+  not_made : (h : Handle) (n : NodeCopy) → copies_now old h ≡ Some n → h ≢ made
+  not_made h n is same = makes.fresh h n is (ap (λ (i : Handle). i.ino) same)
+
+  kinds_of : (h : Handle) → h ≢ made → kind_of (copies_now new h) ≡ kind_of (copies_now old h)
+  kinds_of h differ = go (one_or_other h dir) where
+    go : (h ≡ dir) ⊎ (h ≢ dir) → kind_of (copies_now new h) ≡ kind_of (copies_now old h)
+    go (inl same) =
+        ap (λ (i : Handle). kind_of (copies_now new i)) same ∙ ap kind_of makes.arrived
+        ∙ named_kind (with_last name made) (copies_now old dir)
+        ∙ ap (λ (i : Handle). kind_of (copies_now old i)) (sym same)
+    go (inr other) = ap kind_of (makes.same h other differ)
+
+  module _ (side new_side : Side) (was : AreHidden old side) (well : IsWell old)
+      (not_dir : dir ≢ side.hidden) (free : dir ≡ root → name ≡ hidden → ⊥)
+      (flags : KeepsFlags old side new_side)
+      (has_name : (at_node new_side made).nameless ≡ true → ⊥) where
+    hidden_node : (n : NodeCopy) × (copies_now old side.hidden ≡ Some n)
+    hidden_node = there_by kinds.Dir (copies_now old side.hidden) was.directory
+
+    root_node : (n : NodeCopy) × (copies_now old root ≡ Some n)
+    root_node = go (copies_now old root) refl was.place where
+      go : (found : Option NodeCopy) → copies_now old root ≡ found
+          → bound_to hidden (names_of_node found) ≡ Some side.hidden
+          → (n : NodeCopy) × (copies_now old root ≡ Some n)
+      go None is e = no_some e
+      go (Some n) is e = (n, is)
+
+    same_place : lookup (copies_now new) root hidden ≡ lookup (copies_now old) root hidden
+    same_place = go (one_or_other dir root) where
+      go : (dir ≡ root) ⊎ (dir ≢ root) → lookup (copies_now new) root hidden
+          ≡ lookup (copies_now old) root hidden
+      go (inl same) =
+          ap (λ (d : Handle). lookup (copies_now new) d hidden) (sym same)
+          ∙ arrived_bound (copies_now old) (copies_now new) dir hidden name made makes.dir_is
+          makes.arrived (free same)
+          ∙ ap (λ (d : Handle). lookup (copies_now old) d hidden) same
+      go (inr differ) =
+          same_bound (copies_now old) (copies_now new) root hidden
+          (makes.same root (λ same. differ (sym same)) (not_made root root_node.0 root_node.1))
+
+    before : (h : Handle) (n : NodeCopy) → copies_now new h ≡ Some n
+        → (at_node new_side h).nameless ≡ true → (h ≡ made) ⊎ (h ≢ made) → (m : NodeCopy)
+        × (copies_now old h ≡ Some m)
+    before h n is nameless (inl same) =
+        absurd (has_name (ap (λ (i : Handle). (at_node new_side i).nameless) (sym same) ∙ nameless))
+    before h n is nameless (inr differ) =
+        there_by n.kind (copies_now old h) (sym (kinds_of h differ) ∙ ap kind_of is)
+
+    -- THE HIDDEN FILES stay so where a node is made elsewhere
+    pub making_hidden : AreHidden new new_side
+    making_hidden =
+        elsewhere_hidden old new side new_side was well same_place
+        (makes.same side.hidden (λ same. not_dir (sym same))
+        (not_made side.hidden hidden_node.0 hidden_node.1))
+        (λ h n is nameless. before h n is nameless (one_or_other h made))
+        (λ h nameless opened.
+        let there = was.kept h nameless opened in kinds_of h (not_made h there.0 there.1))
+        makes.slots flags
+
+-- ---- what stands beside nodes then
+
+module _ (old new : Serial) (side : Side) (was : AreHidden old side) (well_new : IsWell new)
+    (kind : Kind) (dir : Handle) (name : List ℕ) (mode : ℕ) (made : Handle)
+    (makes : Makes old new kind dir name mode made) (now : Time) (header : Header)
+    (opens : Bool) where
   abbrev b : Beside
   b = made_beside now header opens made
 
@@ -162,9 +231,6 @@ module _ (old new : Serial) (side : Side) (was : AreHidden old side) (well : IsW
       ≡ at_node side h
   there_before h n is = put_elsewhere side.nodes made b h (makes.fresh h n is)
 
-  named_made : (at_node between made).nameless ≡ false
-  named_made = ap (λ (r : Beside). r.nameless) (put_here side.nodes made b in_rows b_is.0) ∙ b_is.1
-
   nameless_before : (h : Handle) → (at_node between h).nameless ≡ true → at_node between h
       ≡ at_node side h
   nameless_before h nameless = go (place side.nodes made b in_rows b_is.0 h) where
@@ -178,97 +244,40 @@ module _ (old new : Serial) (side : Side) (was : AreHidden old side) (well : IsW
       (ap kind_of makes.arrived ∙ named_kind (with_last name made) (copies_now old dir)
       ∙ makes.dir_is)
 
-  flags : KeepsFlags new between after
-  flags = touched_keeps new well_new between rows_between now dir dir_there.0 dir_there.1
+  touched_flags : KeepsFlags new between after
+  touched_flags = touched_keeps new well_new between rows_between now dir dir_there.0 dir_there.1
 
-  not_made : (h : Handle) (n : NodeCopy) → copies_now old h ≡ Some n → h ≢ made
-  not_made h n is same = makes.fresh h n is (ap (λ (i : Handle). i.ino) same)
-
-  kinds_of : (h : Handle) → h ≢ made → kind_of (copies_now new h) ≡ kind_of (copies_now old h)
-  kinds_of h differ = go (one_or_other h dir) where
-    go : (h ≡ dir) ⊎ (h ≢ dir) → kind_of (copies_now new h) ≡ kind_of (copies_now old h)
-    go (inl same) =
-        ap (λ (i : Handle). kind_of (copies_now new i)) same ∙ ap kind_of makes.arrived
-        ∙ named_kind (with_last name made) (copies_now old dir)
-        ∙ ap (λ (i : Handle). kind_of (copies_now old i)) (sym same)
-    go (inr other) = ap kind_of (makes.same h other differ)
-
-  hidden_node : (n : NodeCopy) × (copies_now old side.hidden ≡ Some n)
-  hidden_node = there_by kinds.Dir (copies_now old side.hidden) was.directory
-
-  same_hidden_names : (more : List ℕ) → lookup (copies_now new) side.hidden more
-      ≡ lookup (copies_now old) side.hidden more
-  same_hidden_names more =
-      same_bound (copies_now old) (copies_now new) side.hidden more
-      (makes.same side.hidden (λ same. not_dir (sym same))
-      (not_made side.hidden hidden_node.0 hidden_node.1))
-
-  root_node : (n : NodeCopy) × (copies_now old root ≡ Some n)
-  root_node = go (copies_now old root) refl was.place where
-    go : (found : Option NodeCopy) → copies_now old root ≡ found
-        → bound_to hidden (names_of_node found) ≡ Some side.hidden
-        → (n : NodeCopy) × (copies_now old root ≡ Some n)
-    go None is e = no_some e
-    go (Some n) is e = (n, is)
-
-  placed : lookup (copies_now new) root hidden ≡ Some side.hidden
-  placed = go (one_or_other dir root) where
-    go : (dir ≡ root) ⊎ (dir ≢ root) → lookup (copies_now new) root hidden ≡ Some side.hidden
-    go (inl same) =
-        ap (λ (d : Handle). lookup (copies_now new) d hidden) (sym same)
-        ∙ arrived_bound (copies_now old) (copies_now new) dir hidden name made makes.dir_is
-        makes.arrived (not_reserved dir file name free same)
-        ∙ ap (λ (d : Handle). lookup (copies_now old) d hidden) same ∙ was.place
-    go (inr differ) =
-        same_bound (copies_now old) (copies_now new) root hidden
-        (makes.same root (λ same. differ (sym same)) (not_made root root_node.0 root_node.1))
-        ∙ was.place
-
-  pub made_hidden : AreHidden new after
-  made_hidden = record {
-    place = placed;
-    directory = kinds_of side.hidden (not_made side.hidden hidden_node.0 hidden_node.1)
-        ∙ was.directory;
-    stands = λ h n is nameless. stands h n is nameless (one_or_other h made);
-    kept = λ h nameless is_open.
-        let same = flags.before h nameless in
-        let at = nameless_before h (sym same.nameless ∙ nameless) in
-        let there = was.kept h (ap (λ (r : Beside). r.nameless) (sym at) ∙ sym same.nameless
-        ∙ nameless)
-        (subst (λ (r : Beside). 0 < r.opens) at (subst (λ (k : ℕ). 0 < k) same.opens is_open)) in
-        there_by there.0.kind (copies_now new h)
-        (kinds_of h (not_made h there.0 there.1) ∙ ap kind_of there.1);
-    only = λ more h bound.
-        let stood = was.only more h (sym (same_hidden_names more) ∙ bound) in
-        let there = hidden_there old side was well more h stood in
-        let differ = not_made h there.0 there.1 in
-        let there_now = there_by kinds.File (copies_now new h) (kinds_of h differ ∙ stood.file) in
-        let same = flags.there h there_now.0 there_now.1 in
-        let at = there_before h there.0 there.1 in
-        record {
-          file = kinds_of h differ ∙ stood.file;
-          is_open = subst (λ (k : ℕ). 0 < k) (sym same.opens)
-              (subst (λ (r : Beside). 0 < r.opens) (sym at) stood.is_open);
-          nameless = same.nameless ∙ ap (λ (r : Beside). r.nameless) at ∙ stood.nameless;
-          numbered = stood.numbered;
-        };
-    rows = (let less = rows_between in let many = flags.rows in omega (arith, less, many));
+  -- beside what was there it says the same of opens and of names
+  pub made_flags : KeepsFlags old side after
+  made_flags = record {
+    hidden = touched_flags.hidden;
+    rows = touched_flags.rows ∙ many_rows side.nodes made b;
+    there = λ h n is.
+        let there = there_by n.kind (copies_now new h)
+        (kinds_of old new kind dir name mode made makes h
+        (not_made old new kind dir name mode made makes h n is) ∙ ap kind_of is) in
+        both h (touched_flags.there h there.0 there.1) (there_before h n is);
+    before = λ h nameless.
+        let last = touched_flags.before h nameless in
+        both h last (nameless_before h (sym last.nameless ∙ nameless));
   } where
-    stands : (h : Handle) (n : NodeCopy) → copies_now new h ≡ Some n → (at_node after h).nameless
-        ≡ true → (h ≡ made) ⊎ (h ≢ made)
-        → StandsHidden new after h
-    stands h n is nameless (inl same) =
-        no_step (sym (sym (flags.there h n is).nameless ∙ nameless)
-        ∙ ap (λ (i : Handle). (at_node between i).nameless) same ∙ named_made)
-    stands h n is nameless (inr differ) =
-        let before = there_by n.kind (copies_now old h) (sym (kinds_of h differ) ∙ ap kind_of is) in
-        let at = there_before h before.0 before.1 in
-        let stood = was.stands h before.0 before.1
-        (ap (λ (r : Beside). r.nameless) (sym at) ∙ sym (flags.there h n is).nameless
-        ∙ nameless) in
-        record {
-          name = stood.name;
-          numbered = stood.numbered;
-          bound = same_hidden_names stood.name
-              ∙ stood.bound;
-        }
+    both : (h : Handle) → SameFlags between after h → at_node between h ≡ at_node side h
+        → SameFlags side after h
+    both h last at = record {
+      opens = last.opens ∙ ap (λ (r : Beside). r.opens) at;
+      nameless = last.nameless ∙ ap (λ (r : Beside). r.nameless) at;
+    }
+
+  abbrev made_now : SameFlags between after made
+  made_now = touched_flags.there made (empty_node kind mode) makes.begun
+
+  -- what is made has a name
+  pub made_nameless : (at_node after made).nameless ≡ true → ⊥
+  made_nameless nameless =
+      no_step (sym (sym made_now.nameless ∙ nameless)
+      ∙ ap (λ (r : Beside). r.nameless) (put_here side.nodes made b in_rows b_is.0) ∙ b_is.1)
+
+  -- it is open once, or not at all
+  pub made_open : (at_node after made).opens ≡ b.opens
+  made_open = made_now.opens
+      ∙ ap (λ (r : Beside). r.opens) (put_here side.nodes made b in_rows b_is.0)

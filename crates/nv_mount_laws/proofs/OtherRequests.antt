@@ -5,8 +5,10 @@ use Rattle.std.proofs.lemmas.Bool.{eqb-true}
 use Rattle.nv_base.specs.Names.{same_name}
 use Rattle.nv_base.specs.declared.node.Kind.TheVariants.{File, Dir}
 use Rattle.nv_base.specs.declared.numbers.Handle.{Handle}
+use Rattle.nv_calls.specs.Plain.{with_names}
 use Rattle.nv_calls.specs.Refusals.{kind_of, lookup}
 use Rattle.nv_calls.specs.declared.call.Call.TheVariants as calls
+use Rattle.nv_entry.specs.Index.{without}
 use Rattle.nv_entry.specs.Tree.{root}
 use Rattle.nv_entry.specs.declared.node.NodeCopy.{NodeCopy}
 use Rattle.nv_entry.proofs.Hiding.{same_name-self}
@@ -44,7 +46,7 @@ use Rattle.nv_mount_laws.proofs.Standing.{IsWell}
 no_value : {A P : Type 0} {a : A} {why : Refusal} → Err why ≡ Ok a → P
 no_value e = cc
 
-checked_is : (name more : List ℕ) → checked_name name ≡ Ok more → name ≡ more
+pub checked_is : (name more : List ℕ) → checked_name name ≡ Ok more → name ≡ more
 checked_is name more e = go _ e where
   go : (b : Bool) → (if b then refused errno.NameTooLong else Ok name) ≡ Ok more → name ≡ more
   go true e = no_value e
@@ -108,21 +110,16 @@ removes old new side now number file outcome new_side had =
       side_is = side_told outcome outcomes.Done new_side (touched now dir side) c.then.0;
     }
 
-module _ (old new : Serial) (side new_side : Side) (now : Time) (number : ℕ) (file : List ℕ)
-    (was : AreHidden old side) (well : IsWell old)
-    (done : Removes old side now number file new new_side) where
-  abbrev dir : Handle
-  dir = done.dir
-
-  abbrev name : List ℕ
-  name = done.name
-
-  abbrev effect : (made : Handle) × HasEffect old 0 (calls.Rmdir dir name) made done.gone.answer new
-  effect = calls_have_effects old new 0 (calls.Rmdir dir name) done.gone.answer refl done.gone.is
+-- a directory's name that is not the mount's goes
+module _ (old new : Serial) (side : Side) (dir : Handle) (name : List ℕ) (was : AreHidden old side)
+    (well : IsWell old)
+    (free : dir ≡ root → name ≡ hidden → ⊥) (gone : Answered old (calls.Rmdir dir name) new) where
+  abbrev effect : (made : Handle) × HasEffect old 0 (calls.Rmdir dir name) made gone.answer new
+  effect = calls_have_effects old new 0 (calls.Rmdir dir name) gone.answer refl gone.is
 
   abbrev left : (to : Handle) × Leaves old new dir name to
       × (kind_of (copies_now old to) ≡ Some Dir)
-  left = rmdir_leaves old new dir name effect.0 done.gone.answer effect.1
+  left = rmdir_leaves old new dir name effect.0 gone.answer effect.1
 
   abbrev to : Handle
   to = left.0
@@ -139,7 +136,7 @@ module _ (old new : Serial) (side new_side : Side) (now : Time) (number : ℕ) (
   not_hidden same =
       let both = one_place (copies_now old) well.tree dir root name hidden side.hidden
       (left.1.bound ∙ ap (λ (h : Handle). Some h) same) was.place in
-      not_reserved dir file name done.free both.0 both.1
+      free both.0 both.1
 
   closed : (at_node side to).nameless ≡ true → 0 < (at_node side to).opens → ⊥
   closed nameless is_open =
@@ -147,24 +144,44 @@ module _ (old new : Serial) (side new_side : Side) (now : Time) (number : ℕ) (
       let stood = was.stands to there.0 there.1 nameless in
       no_directory stood.name stood.bound
 
-  abbrev dir_node : (n : NodeCopy) × (copies_now old dir ≡ Some n)
-  dir_node = there_by Dir (copies_now old dir) left.1.dir_is
+  pub gone_dir : kind_of (copies_now old dir) ≡ Some Dir
+  gone_dir = left.1.dir_is
 
-  flags : KeepsFlags old side new_side
-  flags = subst (λ (s : Side). KeepsFlags old side s) (sym done.side_is)
-      (touched_keeps old well side was.rows now dir dir_node.0 dir_node.1)
+  pub gone_names : copies_now new dir ≡ with_names (without name) (copies_now old dir)
+  gone_names = left.1.left
 
-  pub rmdir_hidden : AreHidden new new_side
-  rmdir_hidden = leaves_hidden old new side new_side dir name to was well left.1 not_dir not_hidden
-      closed flags
+  pub gone_hidden : (new_side : Side) → KeepsFlags old side new_side → AreHidden new new_side
+  gone_hidden new_side flags = leaves_hidden old new side new_side dir name to was well left.1
+      not_dir not_hidden closed flags
 
-  pub rmdir_open : (h : Handle) (n : NodeCopy) → copies_now old h ≡ Some n → n.kind ≡ File
+  pub gone_open : (h : Handle) (n : NodeCopy) → copies_now old h ≡ Some n → n.kind ≡ File
       → copies_now new h ≡ Some n
-  rmdir_open h n is kind =
+  gone_open h n is kind =
       let is_file : kind_of (copies_now old h) ≡ Some File = ap kind_of is
       ∙ ap (λ k. Some k) kind in
       left.1.same h (λ same. kinds_differ (copies_now old) dir h left.1.dir_is is_file (sym same))
       (λ same. kinds_differ (copies_now old) to h left.2 is_file (sym same)) ∙ is
+
+module _ (old new : Serial) (side new_side : Side) (now : Time) (number : ℕ) (file : List ℕ)
+    (was : AreHidden old side) (well : IsWell old)
+    (done : Removes old side now number file new new_side) where
+  free_so : done.dir ≡ root → done.name ≡ hidden → ⊥
+  free_so = not_reserved done.dir file done.name done.free
+
+  flags : KeepsFlags old side new_side
+  flags =
+      let dir_node = there_by Dir (copies_now old done.dir)
+      (gone_dir old new side done.dir done.name was well free_so done.gone) in
+      subst (λ (s : Side). KeepsFlags old side s) (sym done.side_is)
+      (touched_keeps old well side was.rows now done.dir dir_node.0 dir_node.1)
+
+  pub rmdir_hidden : AreHidden new new_side
+  rmdir_hidden = gone_hidden old new side done.dir done.name was well free_so done.gone new_side
+      flags
+
+  pub rmdir_open : (h : Handle) (n : NodeCopy) → copies_now old h ≡ Some n → n.kind ≡ File
+      → copies_now new h ≡ Some n
+  rmdir_open = gone_open old new side done.dir done.name was well free_so done.gone
 
   pub rmdir_opens : (h : Handle) (n : NodeCopy) → copies_now old h ≡ Some n
       → (at_node new_side h).opens ≡ (at_node side h).opens
@@ -250,7 +267,17 @@ module _ (old new : Serial) (side new_side : Side) (number : ℕ) (was : AreHidd
     nameless = λ h n is. nameless h n is (one_or_other h handle);
     opens = λ h n is without open_before. opens_then h n is open_before (one_or_other h handle);
     before = λ h without is_open. before_it h without is_open (one_or_other h handle);
+    unnamed = λ h without. unnamed_it h without (one_or_other h handle);
   } where
+    unnamed_it : (h : Handle) → (at_node new_side h).nameless ≡ true → (h ≡ handle) ⊎ (h ≢ handle)
+        → (at_node side h).nameless ≡ true
+    unnamed_it h without (inl same) =
+        ap (λ (i : Handle). (at_node side i).nameless) same ∙ ap (λ (r : Beside). r.nameless)
+        (sym here)
+        ∙ ap (λ (i : Handle). (at_node new_side i).nameless) (sym same) ∙ without
+    unnamed_it h without (inr differ) =
+        ap (λ (r : Beside). r.nameless) (sym (before h differ without)) ∙ without
+
     nameless : (h : Handle) (n : NodeCopy) → copies_now old h ≡ Some n → (h ≡ handle) ⊎ (h ≢ handle)
         → (at_node new_side h).nameless ≡ (at_node side h).nameless
     nameless h n is (inl same) =

@@ -35,7 +35,7 @@ some_is : {A : Type 0} {a b : A} → Some a ≡ Some b → a ≡ b
 some_is e = cc
 
 -- what a move leaves of kinds
-moved_kinds : (old new : Serial) (from to moved : Handle) (name more : List ℕ)
+pub moved_kinds : (old new : Serial) (from to moved : Handle) (name more : List ℕ)
     → Moves old new from name to more moved
     → (h : Handle) → kind_of (copies_now new h) ≡ kind_of (copies_now old h)
 moved_kinds old new from to moved name more moves h =

@@ -30,13 +30,14 @@ attributes_read side handle =
     both_read (Ends (number_of handle)) _ tt (λ node. both_read (ask_shape handle) _
     (refl, λ answer. tt) (λ shape. tt))
 
-lookup_reads : (side : Side) (dir : Handle) (name : List ℕ) → OnlyReads (lookup_name side dir name)
+pub lookup_reads : (side : Side) (dir : Handle) (name : List ℕ) → OnlyReads
+    (lookup_name side dir name)
 lookup_reads side dir name =
     both_read (Grows (Ends (checked_name name))) _ tt (λ lawful.
     both_read (ask_handle (calls.Lookup dir lawful)) _ (refl, λ answer. tt) (λ handle.
     both_read (ask_attributes side handle) _ (attributes_read side handle) (λ attributes. tt)))
 
-attributes_got : (side : Side) (number : ℕ) → OnlyReads (get_attributes side number)
+pub attributes_got : (side : Side) (number : ℕ) → OnlyReads (get_attributes side number)
 attributes_got side number =
     both_read (Ends (node_named number)) _ tt (λ handle.
     both_read (ask_attributes side handle) _ (attributes_read side handle) (λ attributes. tt))
@@ -77,7 +78,7 @@ release_opened_last side number =
     (let_go_last side number (released (at_node side handle)))
     (λ done. tt) (λ done. tt))
 
-release_last : (side : Side) (number : ℕ) → ChangesLast (release side number)
+pub release_last : (side : Side) (number : ℕ) → ChangesLast (release side number)
 release_last side number =
     chosen (λ d. ChangesLast d) (is_unopened side number) (Ends (Ok (outcomes.Done, side)))
     (release_opened side number) tt (release_opened_last side number)
@@ -132,9 +133,6 @@ pub release_opened_refused : (side : Side) (number : ℕ)
     → RefusedChangesNothing (release_opened side number) side
 release_opened_refused side number =
     refused_by (release_opened side number) side (release_opened_last side number)
-
-pub release_refused : (side : Side) (number : ℕ) → RefusedChangesNothing (release side number) side
-release_refused side number = refused_by (release side number) side (release_last side number)
 
 pub unlink_refused : (side : Side) (now : Time) (number : ℕ) (file : List ℕ)
     → RefusedChangesNothing (unlink side now number file) side

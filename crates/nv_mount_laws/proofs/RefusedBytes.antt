@@ -23,7 +23,7 @@ use Rattle.nv_mount_laws.proofs.Refused.{chosen, done_last, refused_by}
 
 -- ---- reads
 
-read_reads : (number offset size : ℕ) → OnlyReads (read_bytes number offset size)
+pub read_reads : (number offset size : ℕ) → OnlyReads (read_bytes number offset size)
 read_reads number offset size =
     both_read (Ends (node_named number)) _ tt (λ file.
     both_read (ask (calls.Read file offset (min size 16777216)) (bytes_told (min size 16777216))) _

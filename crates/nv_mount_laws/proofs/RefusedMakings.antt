@@ -33,7 +33,7 @@ handle_well : (a : Answer) → IsMade a → Succeeds (Ends (handle_told (Ok a)))
 handle_well (answers.Made handle) made = tt
 handle_well other made = absurd made
 
-making_last : (kind : Kind) (dir : Handle) (name : List ℕ) (mode : ℕ)
+pub making_last : (kind : Kind) (dir : Handle) (name : List ℕ) (mode : ℕ)
     → ChangesLast (ask_handle (making kind dir name mode))
 making_last kind dir name mode = (
   λ why. tt,

@@ -47,14 +47,14 @@ way_reads side moved kind flags (Some there) =
     (both_read (ask_shape there) _ (refl, λ answer. tt) (λ other. tt)))
 
 -- what stands at the new name is looked up
-abbrev ask_there : Side → Handle → List ℕ → Handle → Kind → ℕ → Dialogue Way
+abbrev pub ask_there : Side → Handle → List ℕ → Handle → Kind → ℕ → Dialogue Way
 ask_there side to new moved kind flags = ask (calls.Lookup to new) there_told >>=
     λ there. way_past side moved kind flags there
 
-abbrev crosses : Handle → Handle → Kind → Bool
+abbrev pub crosses : Handle → Handle → Kind → Bool
 crosses from to kind = is_directory kind && not (same_handle from to)
 
-asks_way : (side : Side) (from : Handle) (old : List ℕ) (to : Handle) (new : List ℕ) (flags : ℕ)
+pub asks_way : (side : Side) (from : Handle) (old : List ℕ) (to : Handle) (new : List ℕ) (flags : ℕ)
     → OnlyReads (ask_way side from old to new flags)
 asks_way side from old to new flags =
     both_read (ask_handle (calls.Lookup from old)) _ (refl, λ answer. tt) (λ moved.
@@ -77,7 +77,7 @@ there_is (Ok other) there e = no_refusal (sym e)
 there_is (Err faults.Missing) there e = cc
 there_is (Err why) there e = no_refusal (sym e)
 
-abbrev way_if : Bool → Handle → Result Way Refusal
+abbrev pub way_if : Bool → Handle → Result Way Refusal
 way_if b there = if b then Ok (ways.Open there) else Ok ways.Free
 
 over_is : (side : Side) (there open_one : Handle) (kind other : Kind)
@@ -91,7 +91,7 @@ over_is side there open_one File File e = go (nat_lt 0 (at_node side there).open
   go false h = cc
 
 -- past what stands there
-abbrev past_same : Side → Handle → Handle → Kind → Dialogue Way
+abbrev pub past_same : Side → Handle → Handle → Kind → Dialogue Way
 past_same side moved there kind =
     if same_handle there moved then Ends (Ok ways.Same) else ask_shape there >>=
     λ other. Ends (way_over side there kind other.kind)
@@ -159,10 +159,10 @@ way_open side from old to new flags open_one s t had =
 
 -- ---- over a directory
 
-abbrev then_moves : Handle → List ℕ → Handle → List ℕ → Unit {0} → Dialogue (Unit {0})
+abbrev pub then_moves : Handle → List ℕ → Handle → List ℕ → Unit {0} → Dialogue (Unit {0})
 then_moves from old to new gone = ask_done (calls.Rename from old to new)
 
-abbrev removal : Handle → List ℕ → Dialogue (Unit {0})
+abbrev pub removal : Handle → List ℕ → Dialogue (Unit {0})
 removal to new = Grows (ask_done (calls.Rmdir to new))
 
 removed : (to : Handle) (new : List ℕ) (s t : Serial) (done : Unit {0})
@@ -276,34 +276,33 @@ Raw side old refusal new = HasLostDirectory old new ⊎ CameBack side old new
 abbrev pub hides_there : Handle → Dialogue (List ℕ)
 hides_there there = Grows (Ends (hidden_name_for there))
 
-over_open : (side : Side) (from : Handle) (old : List ℕ) (to : Handle) (new : List ℕ)
+pub over_open : (side : Side) (from : Handle) (old : List ℕ) (to : Handle) (new : List ℕ)
     (there : Handle) (s t : Serial) (refusal : Refusal)
     → lookup (copies_now s) to new ≡ Some there
     → IsHad Calls (move_over_open side from old to new there) s (Err refusal) t
-    → (t ≡ s) ⊎ Raw side s refusal t
+    → (t ≡ s) ⊎ CameBack side s t
 over_open side from old to new there s t refusal bound had =
     go (parts Calls (moves side from old to new there) (hides_there there) s t (Err refusal) had)
   where
     trip : (hidden : List ℕ) → hidden_name_for there ≡ Ok hidden
         → (t ≡ s) ⊎ WentAndCame s (calls.Rename to new side.hidden hidden)
         (calls.Rename side.hidden hidden to new) t
-        → (t ≡ s) ⊎ Raw side s refusal t
+        → (t ≡ s) ⊎ CameBack side s t
     trip hidden is (inl same) = inl same
     trip hidden is (inr came) =
-        inr (inr (record {
+        inr (record {
           dir = to;
           name = new;
           there = there;
           hidden = hidden;
-          bound =
-              bound;
+          bound = bound;
           numbered = is;
           trip = came;
-        }))
+        })
 
     go : GoesOn Calls (moves side from old to new there) (hides_there there) s (Err refusal) t
         ⊎ Stops Calls (moves side from old to new there) (hides_there there) s (Err refusal) t
-        → (t ≡ s) ⊎ Raw side s refusal t
+        → (t ≡ s) ⊎ CameBack side s t
     go (inl on) =
         let so = grown (hidden_name_for there) s on.between on.value on.first in
         trip on.value so.0
@@ -334,10 +333,11 @@ moved_refused side now from old to new (ways.Open there) s t refusal open_there 
           ⊎ Stops Calls touches (move_over_open side from old to new there) s (Err refusal) t
           → (t ≡ s) ⊎ Raw side s refusal t
       go (inl on) = no_refusal (sym on.then.0)
-      go (inr stop) =
-          let same : refusal ≡ stop.why = let e = stop.is in cc in
-          subst (λ (r : Refusal). (t ≡ s) ⊎ Raw side s r t) (sym same)
-          (over_open side from old to new there s t stop.why (open_there there refl) stop.first)
+      go (inr stop) = back (over_open side from old to new there s t stop.why
+          (open_there there refl) stop.first) where
+            back : (t ≡ s) ⊎ CameBack side s t → (t ≡ s) ⊎ Raw side s refusal t
+            back (inl same) = inl same
+            back (inr came) = inr (inr came)
 
 module _ (side : Side) (now : Time) (flags : ℕ) where
   way_refused : (from : Handle) (old : List ℕ) (to : Handle) (new : List ℕ)

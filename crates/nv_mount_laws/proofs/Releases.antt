@@ -1,6 +1,6 @@
 -- A release leaves the hidden files hidden, and other open files as they are. The last one of a
 -- file without a name takes it away.
-use Rattle.std.proofs.Common.{◌≡◌, ◌≢◌, ◌∙◌, ◌^◌, ◌<◌, ◌⊎◌, inl, inr, ℕ, Bool, true, false, List, Some, None, ap, arith, length, refl, subst, sym}
+use Rattle.std.proofs.Common.{◌≡◌, ◌≢◌, ◌∙◌, ◌^◌, ◌<◌, ◌⊎◌, inl, inr, ℕ, Bool, true, false, List, Some, None, Ok, ap, arith, length, refl, subst, sym}
 use Rattle.std.specs.Prelude.{◌||◌, nat_lt, not}
 use Rattle.std.proofs.lemmas.Bool.{ltb-false, ltb-true}
 use Rattle.nv_base.specs.declared.node.Kind.TheVariants.{File, Dir}
@@ -20,6 +20,7 @@ use Rattle.nv_mount_beside.specs.Beside.{released}
 use Rattle.nv_mount_beside.specs.Names.{hidden, hidden_name}
 use Rattle.nv_mount_beside.specs.declared.beside.Beside.{Beside}
 use Rattle.nv_mounted.specs.Side.{at_node, put_node}
+use Rattle.nv_mounted.specs.Talks.{hidden_name_for}
 use Rattle.nv_mounted.specs.declared.side.Side.{Side}
 use Rattle.nv_serial.specs.Serial.{Serial, copies_now}
 use Rattle.nv_mount_laws.specs.Hidden.{AreHidden, IsNameless}
@@ -98,6 +99,7 @@ module _ (old new : Serial) (side new_side : Side) (number : ℕ) (small : numbe
       nameless = λ h n is. nameless h (one_or_other h handle);
       opens = λ h n is without open_before. opens h without open_before (one_or_other h handle);
       before = λ h without open_now. before h without open_now (one_or_other h handle);
+      unnamed = λ h without. sym (nameless h (one_or_other h handle)) ∙ without;
     } where
       nameless : (h : Handle) → (h ≡ handle) ⊎ (h ≢ handle) → (at_node new_side h).nameless
           ≡ (at_node side h).nameless
@@ -238,9 +240,17 @@ module _ (old new : Serial) (side new_side : Side) (number : ℕ) (small : numbe
         kept = λ h nameless open_now. kept h nameless open_now (one_or_other h handle);
         only = λ more h at. only more h (ap (λ (d : Handle). lookup (copies_now new) d more) hidden_is
             ∙ at) (some_name_or_other name more);
+        numbered = λ h nameless. numbered_so h nameless (one_or_other h handle);
         rows = (let less = was.rows in let many = leaves.slots in let rows =
             same_rows in omega (arith, less, many, rows));
       } where
+        numbered_so : (h : Handle) → (at_node new_side h).nameless ≡ true
+            → (h ≡ handle) ⊎ (h ≢ handle) → (more : List ℕ) × (hidden_name_for h ≡ Ok more)
+        numbered_so h nameless (inl same) =
+            was.numbered h (ap (λ (i : Handle). (at_node side i).nameless) same ∙ closed.1)
+        numbered_so h nameless (inr differ) =
+            was.numbered h (ap (λ (r : Beside). r.nameless) (sym (others h differ)) ∙ nameless)
+
         kept : (h : Handle) → (at_node new_side h).nameless ≡ true → 0 < (at_node new_side h).opens
             → (h ≡ handle) ⊎ (h ≢ handle)
             → (n : NodeCopy) × (copies_now new h ≡ Some n)

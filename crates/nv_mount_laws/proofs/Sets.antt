@@ -17,7 +17,6 @@ use Rattle.nv_mount_beside.specs.Shown.{attributes_if}
 use Rattle.nv_mount_beside.specs.declared.beside.Beside.{Beside}
 use Rattle.nv_mount_beside.specs.declared.outcome.Outcome.{Outcome}
 use Rattle.nv_mount_beside.specs.declared.outcome.Outcome.TheVariants as outcomes
-use Rattle.nv_mount_beside.specs.declared.refusal.Refusal.{Refusal}
 use Rattle.nv_mounted.specs.Asks.{ask_done, ask_shape, faulted}
 use Rattle.nv_mounted.specs.Dialogues.{Asks, Dialogue, Ends, IsHad, ◌>>=◌}
 use Rattle.nv_mounted.specs.Makings.{permissions}
@@ -25,22 +24,17 @@ use Rattle.nv_mounted.specs.Sets.{beside_set, beside_sized, set_attributes, set_
 use Rattle.nv_mounted.specs.Side.{at_node, put_node, touched}
 use Rattle.nv_mounted.specs.declared.side.Side.{Side}
 use Rattle.nv_serial.specs.Serial.{Serial, copies_now}
-use Rattle.nv_mount_laws.specs.Hidden.{KeepsHidden}
+use Rattle.nv_mount_laws.specs.Hidden.{AreHidden, KeepsHidden}
+use Rattle.nv_mount_laws.specs.Open.{LeavesOpens, LeavesOtherFiles}
 use Rattle.nv_mount_laws.specs.Refused.{IsPartlySet, RefusedChanges}
-use Rattle.nv_mount_laws.specs.World.{Calls}
+use Rattle.nv_mount_laws.specs.World.{CanStand, Calls}
 use Rattle.nv_mount_laws.proofs.Asked.{shape_asked}
-use Rattle.nv_mount_laws.proofs.Contents.{KeepsNames, KeepsOthers, OnlyOf, both_of, contents_hidden, only_keeps, same_names}
+use Rattle.nv_mount_laws.proofs.Contents.{KeepsOthers, OnlyOf, both_of, chosen_of, flags_count, names_hidden, only_keeps, others_stay}
 use Rattle.nv_mount_laws.proofs.Dialogues.{GoesOn, Stops, parts, side_told, went_on}
 use Rattle.nv_mount_laws.proofs.Flags.{KeepsFlags, flags_twice, put_keeps, same_flags, touched_keeps}
-use Rattle.nv_mount_laws.proofs.HiddenKept.{hidden_flags, same_hidden_flags, there_by}
+use Rattle.nv_mount_laws.proofs.HiddenKept.{there_by}
 use Rattle.nv_mount_laws.proofs.Rows.{beside_generation}
 use Rattle.nv_mount_laws.proofs.Standing.{IsWell, stands_well}
-
-chosen_of : {A : Type 0} (handle : Handle) (b : Bool) (one other : Dialogue A) → OnlyOf handle one
-    → OnlyOf handle other
-    → OnlyOf handle (if b then one else other)
-chosen_of handle true one other first second = first
-chosen_of handle false one other first second = second
 
 mode_of : (handle : Handle) (set : SetAttributes) → OnlyOf handle (set_mode handle set)
 mode_of handle set =
@@ -138,31 +132,16 @@ module _ (side : Side) (now : Time) (number : ℕ) (set : SetAttributes) where
       (same.2 ∙ sym at.nameless)
       (put_node handle b between) refl refl)
 
-  pub sets_keep : KeepsHidden (set_attributes side now number set) side
-  sets_keep old new new_side (Err why) stands was does =
-      let keeps = refused_keeps old new why does.had in
-      contents_hidden old new side new_side was (stands_well old stands) keeps
-      (same_hidden_flags old side new_side does.same) where
-        refused_keeps : (s t : Serial) (refusal : Refusal)
-            → IsHad Calls (set_attributes side now number set) s (Err refusal) t → KeepsNames s t
-        refused_keeps s t refusal had = go (parts Calls sets (Ends (node_named number)) s t
-            (Err refusal) had) where
-              go : GoesOn Calls sets (Ends (node_named number)) s (Err refusal) t
-                  ⊎ Stops Calls sets (Ends (node_named number)) s (Err refusal) t
-                  → KeepsNames s t
-              go (inl on) =
-                  subst (λ (u : Serial). KeepsNames u t) on.first.1
-                  (only_keeps on.value (sets on.value) (sets_of on.value) on.between t (Err refusal)
-                  on.then).names
-              go (inr stop) = same_names s t stop.first.1
-  sets_keep old new new_side (Ok outcome) stands was does =
-      let a = went_on Calls sets (Ends (node_named number)) old new (outcome, new_side) does.had in
+  set_so : (old new : Serial) (new_side : Side) (outcome : Outcome) → CanStand old
+      → AreHidden old side
+      → IsHad Calls (set_attributes side now number set) old (Ok (outcome, new_side)) new
+      → KeepsFlags old side new_side
+  set_so old new new_side outcome stands was all_had =
+      let a = went_on Calls sets (Ends (node_named number)) old new (outcome, new_side) all_had in
       let handle = a.value in
       let had : IsHad Calls (sets handle) old (Ok (outcome, new_side)) new =
       subst (λ (s : Serial). IsHad Calls (sets handle) s (Ok (outcome, new_side)) new) a.first.1
       a.then in
-      let keeps = (only_keeps handle (sets handle) (sets_of handle) old new (Ok (outcome, new_side))
-      had).names in
       let b = went_on Calls _ (ask_shape handle) old new (outcome, new_side) had in
       let there = there_by b.value.kind (copies_now old handle)
       (shape_asked old b.between handle b.value b.first).0 in
@@ -176,11 +155,17 @@ module _ (side : Side) (now : Time) (number : ℕ) (set : SetAttributes) where
       let after : new_side ≡ put_node handle beside (touched_set now handle set side) =
       side_told outcome (outcomes.Node f.value) new_side
       (put_node handle beside (touched_set now handle set side)) f.then.0 in
-      let well = stands_well old stands in
-      contents_hidden old new side new_side was well keeps
-      (hidden_flags old side new_side
-      (subst (λ (s : Side). KeepsFlags old side s) (sym after)
-      (set_flags old well was.rows handle there.0 there.1)))
+      subst (λ (s : Side). KeepsFlags old side s) (sym after)
+      (set_flags old (stands_well old stands) was.rows handle there.0 there.1)
+
+  pub sets_keep : KeepsHidden (set_attributes side now number set) side
+  sets_keep = names_hidden side number sets sets_of set_so
+
+  pub sets_count : LeavesOpens (set_attributes side now number set) side
+  sets_count = flags_count (set_attributes side now number set) side set_so
+
+  pub sets_leave : LeavesOtherFiles (set_attributes side now number set) side number
+  sets_leave = others_stay side number sets sets_of
 
   pub set_refused : RefusedChanges (IsPartlySet number) (set_attributes side now number set) side
   set_refused s t new_side refusal stands was does =

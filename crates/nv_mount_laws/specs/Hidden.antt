@@ -1,22 +1,20 @@
 -- The hidden files of a mount: those that are open and have no name.
-use Rattle.std.specs.Prelude.{◌≡◌, ◌≢◌, ◌<◌, ◌≤◌, ℕ, true, List, length, Some, Result, Ok}
+use Rattle.std.specs.Prelude.{◌≡◌, ◌≢◌, ◌<◌, ◌≤◌, ℕ, true, List, length, min, Some, Result, Ok}
 use Rattle.nv_base.specs.declared.node.Kind.TheVariants.{File, Dir}
 use Rattle.nv_base.specs.declared.numbers.Handle.{Handle}
 use Rattle.nv_calls.specs.Refusals.{kind_of, lookup}
-use Rattle.nv_calls.specs.declared.answer.Answer.TheVariants as answers
-use Rattle.nv_calls.specs.declared.call.Call.TheVariants as calls
 use Rattle.nv_entry.specs.Tree.{root}
 use Rattle.nv_entry.specs.declared.node.NodeCopy.{NodeCopy}
 use Rattle.nv_mount_answers.specs.declared.kept.Time.{Time}
-use Rattle.nv_mount_beside.specs.Beside.{none_beside}
 use Rattle.nv_mount_beside.specs.Names.{hidden, node_named}
 use Rattle.nv_mount_beside.specs.declared.refusal.Refusal.{Refusal}
 use Rattle.nv_mounted.specs.Dialogues.{Dialogue}
+use Rattle.nv_mounted.specs.NewMounts.{Begins}
 use Rattle.nv_mounted.specs.Side.{Does, at_node}
 use Rattle.nv_mounted.specs.Talks.{hidden_name_for}
 use Rattle.nv_mounted.specs.declared.side.Side.{Side}
-use Rattle.nv_serial.specs.OneCall.{serial_call}
-use Rattle.nv_serial.specs.Serial.{Serial, copies_now, told}
+use Rattle.nv_mounted.specs.declared.world.Room.{Room}
+use Rattle.nv_serial.specs.Serial.{Serial, copies_now}
 use Rattle.nv_mount_laws.specs.World.{CanStand, Calls}
 
 -- a file is open and has no name, and this is its number
@@ -58,6 +56,9 @@ pub record AreHidden (s : Serial) (side : Side) : Type 0 where
   pub only : (name : List ℕ) (handle : Handle) → lookup (copies_now s) side.hidden name
       ≡ Some handle
       → IsNameless s side name handle
+  -- a file without a name has a number
+  pub numbered : (handle : Handle) → (at_node side handle).nameless ≡ true → (name : List ℕ)
+      × (hidden_name_for handle ≡ Ok name)
   -- each inode slot has a row beside the world
   pub rows : length s.slots ≤ length side.nodes.rows
 
@@ -68,23 +69,13 @@ KeepsHidden {A} talk side =
     → AreHidden old side
     → Does Calls talk old side result new new_side → AreHidden new new_side
 
--- an answered request leaves them so
-abbrev pub AnsweredKeepsHidden : {A : Type 0} → Dialogue (A × Side) → Side → Type 0
-AnsweredKeepsHidden {A} talk side =
-    (old new : Serial) (new_side : Side) (a : A) → CanStand old → AreHidden old side
-    → Does Calls talk old side (Ok a) new new_side → AreHidden new new_side
+-- a room tells all inode slots of a world, which are at most as many as a mount counts
+abbrev pub TellsSlots : Serial → Room → Type 0
+TellsSlots s room = length s.slots ≤ min room.inodes 65536
 
--- a new mount: the hidden directory was made in the root, and nothing was told of any node
-pub record IsNewMount (old new : Serial) (side : Side) (begun : Time) (slots mode : ℕ) : Type 0
-  where
-    -- the hidden directory was made
-    pub made : serial_call old 0 (calls.Mkdir root hidden mode) ≡ told (answers.Made side.hidden) new
-    -- a world of the machine stands as this one
-    pub stands : CanStand new
-    -- nothing was told yet of so many slots
-    pub nodes : side.nodes ≡ none_beside slots begun
-    -- those are all that there are
-    pub fit : length new.slots ≤ slots
+-- a new mount of the plain world, as its contract tells
+abbrev pub IsNewMount : Serial → Serial → Side → Time → Type 0
+IsNewMount old new side begun = Begins Calls TellsSlots old begun (Ok side) new
 
 -- the request does not name the hidden directory
 abbrev pub NamesAnother : Side → ℕ → Type 0

@@ -8,6 +8,7 @@ use Rattle.nv_calls.specs.declared.answer.Answer.TheVariants as answers
 use Rattle.nv_calls.specs.declared.call.Call.TheVariants as calls
 use Rattle.nv_entry.specs.Bytes.{read_at}
 use Rattle.nv_entry.specs.declared.node.NodeCopy.{NodeCopy}
+use Rattle.nv_mount_beside.specs.Names.{node_named}
 use Rattle.nv_mount_beside.specs.declared.outcome.Outcome.{Outcome}
 use Rattle.nv_mount_beside.specs.declared.refusal.Refusal.{Refusal}
 use Rattle.nv_mounted.specs.Dialogues.{Dialogue, IsHad}
@@ -65,3 +66,21 @@ LeavesReplaced talk side dir name there =
     → dir ≢ side.hidden → lookup (copies_now old) dir name ≡ Some there
     → copies_now old there ≡ Some node → node.kind ≡ File → IsHad Calls talk old (Ok end) new
     → Stays old new there node
+
+-- ---- requests that change another file, or make one
+
+-- each file that a request does not name stays as it is, open or not
+abbrev pub LeavesOtherFiles : {A : Type 0} → Dialogue (A × Side) → Side → ℕ → Type 0
+LeavesOtherFiles {A} talk side number =
+    (old new : Serial) (new_side : Side) (result : Result A Refusal) → CanStand old
+    → Does Calls talk old side result new new_side → (handle : Handle) (node : NodeCopy)
+    → copies_now old handle ≡ Some node → node.kind ≡ File → node_named number ≢ Ok handle
+    → Stays old new handle node
+
+-- the node that an answered request made under a name is so often open
+abbrev pub OpensMade : {A : Type 0} → Dialogue (A × Side) → Side → ℕ → List ℕ → ℕ → Type 0
+OpensMade {A} talk side number name opens =
+    (old new : Serial) (new_side : Side) (a : A) → CanStand old → AreHidden old side
+    → Does Calls talk old side (Ok a) new new_side → (dir made : Handle)
+    → node_named number ≡ Ok dir → lookup (copies_now new) dir name ≡ Some made
+    → (at_node new_side made).opens ≡ opens

@@ -6,17 +6,20 @@ ghost use Rattle.nv_fuse.specs.declared.header.Header.{Header};
 ghost use Rattle.nv_fuse.specs.declared.operation.SetAttributes.{SetAttributes};
 ghost use Rattle.nv_mount_answers.specs.declared.kept.Time.{Time};
 ghost use Rattle.nv_mount_beside.specs.declared.outcome.Outcome.{Outcome};
-ghost use Rattle.nv_mounted.specs.Contents.{fallocate, read_bytes, write_bytes};
+ghost use Rattle.nv_mounted.specs.Contents.{clean, fallocate, read_bytes, write_bytes};
 ghost use Rattle.nv_mounted.specs.Dialogues.{Dialogue};
 ghost use Rattle.nv_mounted.specs.Makings.{create, mkdir, mknod};
 ghost use Rattle.nv_mounted.specs.Renames.{move_over_open, rename};
 ghost use Rattle.nv_mounted.specs.Sets.{set_attributes};
-ghost use Rattle.nv_mounted.specs.Talks.{get_attributes, lookup_name, open_node, release, rmdir, unlink};
+ghost use Rattle.nv_mounted.specs.Talks.{get_attributes, lookup_name, open_node, release_file, rmdir, unlink};
 ghost use Rattle.nv_mounted.specs.declared.side.Side.{Side};
 ghost use Rattle.nv_serial.specs.Serial.{Serial};
 ghost use Rattle.nv_mount_laws.specs.Files.{IsPlain};
-ghost use Rattle.nv_mount_laws.specs.Hidden.{AnsweredKeepsHidden, AreHidden, IsNewMount, KeepsHidden, NamesAnother};
-ghost use Rattle.nv_mount_laws.specs.Open.{LeavesOpenFiles, LeavesOpens, LeavesReplaced};
+ghost use Rattle.nv_mount_laws.specs.Hidden.{AreHidden, IsNewMount, KeepsHidden, NamesAnother};
+ghost use Rattle.nv_mount_laws.specs.Mounts.{IsMountBehind, Step};
+ghost use Rattle.nv_mount_laws.specs.Numbers.{TellsFound, TellsItself, TellsMade};
+ghost use Rattle.nv_mount_laws.specs.Open.{LeavesOpenFiles, LeavesOpens, LeavesOtherFiles, LeavesReplaced, OpensMade};
+ghost use Rattle.nv_mount_laws.specs.Requests.{RequestsKeepHidden, RequestsLeaveOpenFiles};
 ghost use Rattle.nv_mount_laws.specs.Refused.{ChangesNothing, IsPartlySet, IsUnnumbered, RefusedChanges, RefusedChangesNothing, RenameChanges};
 
 /// A mount of files is one of the plain world as which they stand: so all laws of the plain world
@@ -43,7 +46,8 @@ pub fn refused_requests_have_changed_nothing()
     // A file that can't be opened is as often open as it was.
     ensures open { (side : Side) (number : ℕ) → RefusedChangesNothing (open_node side number) side }
     // A file that can't be released is as it was, and as often open.
-    ensures release { (side : Side) (number : ℕ) → RefusedChangesNothing (release side number) side }
+    ensures release { (side : Side) (now : Time) (number : ℕ)
+        → RefusedChangesNothing (release_file side now number) side }
     // A refused unlink has hidden nothing and taken nothing away.
     ensures unlink { (side : Side) (now : Time) (number : ℕ) (name : List ℕ)
         → RefusedChangesNothing (unlink side now number name) side }
@@ -93,9 +97,14 @@ pub fn refused_settings_have_changed_their_node_at_most()
 /// Each open file without a name stands in the hidden directory under its number, and nothing else
 /// does.
 pub fn hidden_files_stay_hidden()
+    // A mount has them so behind any requests.
+    ensures mount { (steps : List Step) (s : Serial) (side : Side)
+        → IsMountBehind steps s side → AreHidden s side }
+    // Each request leaves them, whatever it is, and however it is answered. Then another may come.
+    ensures request { RequestsKeepHidden }
     // A new mount has none, and an empty directory for them.
-    ensures new { (old new : Serial) (side : Side) (begun : Time) (slots mode : ℕ)
-        → IsNewMount old new side begun slots mode → AreHidden new side }
+    ensures new { (old new : Serial) (side : Side) (begun : Time)
+        → IsNewMount old new side begun → AreHidden new side }
     // An unlink hides a file that is open, and leaves the others.
     ensures unlink { (side : Side) (now : Time) (number : ℕ) (name : List ℕ)
         → KeepsHidden (unlink side now number name) side }
@@ -105,34 +114,41 @@ pub fn hidden_files_stay_hidden()
     // A file that is opened is not hidden by that.
     ensures open { (side : Side) (number : ℕ) → KeepsHidden (open_node side number) side }
     // A release of an open file takes it away where it has no name and was released last.
-    ensures release { (side : Side) (number : ℕ) → number < 2 ^ 64
-        → KeepsHidden (release side number) side }
+    ensures release { (side : Side) (now : Time) (number : ℕ) → number < 2 ^ 64
+        → KeepsHidden (release_file side now number) side }
     // A write changes bytes alone.
     ensures write { (side : Side) (now : Time) (number offset : ℕ) (bytes : List ℕ)
-        → length bytes < 2 ^ 32 → KeepsHidden (write_bytes side now number offset bytes) side }
+        → KeepsHidden (write_bytes side now number offset bytes) side }
     // A fallocate makes a file longer at most.
     ensures fallocate { (side : Side) (now : Time) (number : ℕ) (end : Option ℕ) (mode : ℕ)
         → KeepsHidden (fallocate side now number end mode) side }
     // Attributes that are set leave names and opens, also where the request is refused half way.
     ensures set { (side : Side) (now : Time) (number : ℕ) (set : SetAttributes)
         → KeepsHidden (set_attributes side now number set) side }
-    // A file that is made elsewhere is none of them.
+    // A file that is made elsewhere is none of them, also where the request is refused behind it.
     ensures mknod { (side : Side) (now : Time) (header : Header) (mode : ℕ) (name : List ℕ)
-        → NamesAnother side header.node
-        → AnsweredKeepsHidden (mknod side now header mode name) side }
+        → NamesAnother side header.node → KeepsHidden (mknod side now header mode name) side }
     // A directory that is made elsewhere is none of them.
     ensures mkdir { (side : Side) (now : Time) (header : Header) (mode : ℕ) (name : List ℕ)
-        → NamesAnother side header.node
-        → AnsweredKeepsHidden (mkdir side now header mode name) side }
+        → NamesAnother side header.node → KeepsHidden (mkdir side now header mode name) side }
     // A file that is made elsewhere and opened is none of them.
     ensures create { (side : Side) (now : Time) (header : Header) (mode : ℕ) (name : List ℕ)
-        → NamesAnother side header.node
-        → AnsweredKeepsHidden (create side now header mode name) side }
+        → NamesAnother side header.node → KeepsHidden (create side now header mode name) side }
+    // The cleaning of a log between requests leaves them.
+    ensures clean { (side : Side) → KeepsHidden (clean side) side }
+    // A rename leaves them, also where it is refused. An open file whose name it takes is one more.
+    ensures rename { (side : Side) (now : Time) (from : ℕ) (old : List ℕ) (to : ℕ) (new : List ℕ)
+        (flags : ℕ) → NamesAnother side from → NamesAnother side to
+        → KeepsHidden (rename side now from old to new flags) side }
 {}
 
 /// A file that is open stays as it is until its last release, also where its name goes: by its
 /// handle it is read and written as before.
 pub fn open_files_outlive_their_names()
+    // Each request leaves each open file as it is, except one that it writes, sizes or sets itself.
+    ensures request { RequestsLeaveOpenFiles }
+    // The cleaning of a log between requests leaves it as it is.
+    ensures clean { (side : Side) → LeavesOpenFiles (clean side) side }
     // An unlink leaves each open file as it is, also the one whose name it takes away.
     ensures unlink { (side : Side) (now : Time) (number : ℕ) (name : List ℕ)
         → LeavesOpenFiles (unlink side now number name) side }
@@ -148,10 +164,87 @@ pub fn open_files_outlive_their_names()
     // An opening leaves each open file as it is.
     ensures open { (side : Side) (number : ℕ) → LeavesOpenFiles (open_node side number) side }
     // A release of an open file leaves each file that is still open as it is.
-    ensures release { (side : Side) (number : ℕ) → number < 2 ^ 64
-        → LeavesOpenFiles (release side number) side }
+    ensures release { (side : Side) (now : Time) (number : ℕ) → number < 2 ^ 64
+        → LeavesOpenFiles (release_file side now number) side }
     // A file that moves over an open one leaves that as it is, also where it stays hidden.
     ensures replaced { (side : Side) (from : Handle) (old : List ℕ) (to : Handle) (new : List ℕ)
         (there : Handle)
         → LeavesReplaced (move_over_open side from old to new there) side to new there }
+    // A rename leaves each open file as it is, also the one whose name it takes.
+    ensures rename { (side : Side) (now : Time) (from : ℕ) (old : List ℕ) (to : ℕ) (new : List ℕ)
+        (flags : ℕ) → NamesAnother side from → NamesAnother side to
+        → LeavesOpenFiles (rename side now from old to new flags) side }
+    // It leaves each node as often open as it was.
+    ensures rename_opens { (side : Side) (now : Time) (from : ℕ) (old : List ℕ) (to : ℕ)
+        (new : List ℕ) (flags : ℕ) → NamesAnother side from → NamesAnother side to
+        → LeavesOpens (rename side now from old to new flags) side }
+{}
+
+/// A request that changes what one file has leaves all others as they are.
+pub fn changes_leave_other_files()
+    // A write changes the file that it names.
+    ensures write { (side : Side) (now : Time) (number offset : ℕ) (bytes : List ℕ)
+        → LeavesOtherFiles (write_bytes side now number offset bytes) side number }
+    // It leaves each node as often open as it was.
+    ensures write_opens { (side : Side) (now : Time) (number offset : ℕ) (bytes : List ℕ)
+        → LeavesOpens (write_bytes side now number offset bytes) side }
+    // A fallocate changes the file that it names.
+    ensures fallocate { (side : Side) (now : Time) (number : ℕ) (end : Option ℕ) (mode : ℕ)
+        → LeavesOtherFiles (fallocate side now number end mode) side number }
+    // It leaves each node as often open as it was.
+    ensures fallocate_opens { (side : Side) (now : Time) (number : ℕ) (end : Option ℕ) (mode : ℕ)
+        → LeavesOpens (fallocate side now number end mode) side }
+    // A setting of attributes changes the node that it names.
+    ensures set { (side : Side) (now : Time) (number : ℕ) (set : SetAttributes)
+        → LeavesOtherFiles (set_attributes side now number set) side number }
+    // It leaves each node as often open as it was.
+    ensures set_opens { (side : Side) (now : Time) (number : ℕ) (set : SetAttributes)
+        → LeavesOpens (set_attributes side now number set) side }
+{}
+
+/// A request that makes a node leaves each open file as it is, and says how often the node is open.
+pub fn makings_leave_open_files()
+    // A file that is made leaves each open one as it is.
+    ensures mknod { (side : Side) (now : Time) (header : Header) (mode : ℕ) (name : List ℕ)
+        → LeavesOpenFiles (mknod side now header mode name) side }
+    // Each node is as often open as it was.
+    ensures mknod_opens { (side : Side) (now : Time) (header : Header) (mode : ℕ) (name : List ℕ)
+        → LeavesOpens (mknod side now header mode name) side }
+    // The file itself is not open.
+    ensures made { (side : Side) (now : Time) (header : Header) (mode : ℕ) (name : List ℕ)
+        → OpensMade (mknod side now header mode name) side header.node name 0 }
+    // A directory that is made leaves each open file as it is.
+    ensures mkdir { (side : Side) (now : Time) (header : Header) (mode : ℕ) (name : List ℕ)
+        → LeavesOpenFiles (mkdir side now header mode name) side }
+    // Each node is as often open as it was.
+    ensures mkdir_opens { (side : Side) (now : Time) (header : Header) (mode : ℕ) (name : List ℕ)
+        → LeavesOpens (mkdir side now header mode name) side }
+    // A file that is made and opened leaves each open one as it is.
+    ensures create { (side : Side) (now : Time) (header : Header) (mode : ℕ) (name : List ℕ)
+        → LeavesOpenFiles (create side now header mode name) side }
+    // Each node that was there is as often open as it was.
+    ensures create_opens { (side : Side) (now : Time) (header : Header) (mode : ℕ) (name : List ℕ)
+        → LeavesOpens (create side now header mode name) side }
+    // The file itself is open once.
+    ensures created { (side : Side) (now : Time) (header : Header) (mode : ℕ) (name : List ℕ)
+        → OpensMade (create side now header mode name) side header.node name 1 }
+{}
+
+/// A number that is told of a node names it: the next request with that number is about this node.
+pub fn told_numbers_name_their_nodes()
+    // A look-up tells the number of the node to which the name leads.
+    ensures lookup { (side : Side) (dir : Handle) (name : List ℕ)
+        → TellsFound (lookup_name side dir name) dir name }
+    // Attributes have the number by which they were asked for.
+    ensures attributes { (side : Side) (number : ℕ) → number < 2 ^ 64
+        → TellsItself (get_attributes side number) number }
+    // A making tells the number of the file that it made, to which the name leads.
+    ensures mknod { (side : Side) (now : Time) (header : Header) (mode : ℕ) (name : List ℕ)
+        → TellsMade (mknod side now header mode name) side header.node name }
+    // It tells that of a directory.
+    ensures mkdir { (side : Side) (now : Time) (header : Header) (mode : ℕ) (name : List ℕ)
+        → TellsMade (mkdir side now header mode name) side header.node name }
+    // It tells that of a file that it opened.
+    ensures create { (side : Side) (now : Time) (header : Header) (mode : ℕ) (name : List ℕ)
+        → TellsMade (create side now header mode name) side header.node name }
 {}

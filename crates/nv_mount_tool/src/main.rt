@@ -9,6 +9,11 @@ mod serve;
 mod stream;
 mod world;
 
+ghost use Rattle.std.specs.Prelude.{IfOk};
+ghost use Rattle.nv_mount_tool.specs.Answered.{IsNewMount};
+ghost use Rattle.nv_mount_tool.specs.CommandLine.{numbers_of};
+ghost use Rattle.nv_mount_tool.specs.Serve.{Attends};
+
 use anyhow::{Result, bail};
 use command_line::Options;
 use nv_core::World;
@@ -17,13 +22,17 @@ use nv_mounted::Mount;
 use serve::{Serving, time_of};
 use std::alloc::Global;
 use std::env::Env;
+use std::io::{Read, Write};
 use std::process::ExitCode;
 use std::time::Clock;
 use std::{env, io};
 use world::OneActor;
 
 /// A new file system with the numbers of the command line, mounted.
-fn mounted(alloc: Global, options: Options, now: Time) -> Result<Mount<OneActor>> {
+fn mounted(alloc: Global, options: Options, now: Time) -> Result<Mount<OneActor>>
+    // It is a new mount of a world that is made anew.
+    ensures { IfOk result (λ mount. IsNewMount (numbers_of options) now mount) }
+{
     let Ok(world) = World::format(alloc, options.geometry()?) else {
         bail!("there is no memory for so many '--blocks' and '--inodes'");
     };
@@ -35,27 +44,44 @@ fn mounted(alloc: Global, options: Options, now: Time) -> Result<Mount<OneActor>
     Ok(mount)
 }
 
-/// Answers requests up to the end of the input, or until they are unmounted.
-fn attend<R: AllocGlobal + Clock + Input + Print + Eprint>(rt: &R, options: Options) -> Result<()> {
+/// Compares the world with one scan of its logs, and tells how many requests there were.
+fn audit<R: Eprint>(rt: &R, serving: &Serving) -> Result<()> {
+    serving.mount().core().audit()?;
+    let (answered, dropped) = (serving.answered(), serving.dropped());
+    eprintln!(rt; "novamount: {answered} requests, {dropped} replies dropped, audit true")?;
+    Ok(())
+}
+
+/// Answers requests of a reader up to its end, or until they are unmounted. Tells whether they were unmounted.
+fn attend<R: AllocGlobal + Clock + Eprint, S: Read, W: Write>(
+    rt: &R,
+    options: Options,
+    reader: &mut S,
+    writer: &mut W,
+) -> Result<bool>
+    // All that is read is requests. From a new mount on each is served in turn, and their replies are written.
+    ensures { IfOk result (λ unmounted. Attends options unmounted (S.remaining reader.old)
+        (S.remaining reader.new) (W.contents writer.old) (W.contents writer.new)) }
+{
     let alloc = rt.alloc();
     let mount = mounted(alloc, options, time_of(rt, options.now))?;
     let mut serving = Serving::new(alloc, mount)?;
-    let mut reader = rt.reader();
-    let mut writer = io::writer(rt);
-    serving.serve(rt, options.now, &mut reader, &mut writer)?;
+    let unmounted = serving.serve(rt, options.now, reader, writer)?;
     if options.audit {
-        serving.mount().core().audit()?;
-        let (answered, dropped) = (serving.answered(), serving.dropped());
-        eprintln!(rt; "novamount: {answered} requests, {dropped} replies dropped, audit true")?;
+        audit(rt, &serving)?;
     }
-    Ok(())
+    Ok(unmounted)
 }
 
 fn run<R: AllocGlobal + Clock + Env + Input + Print + Eprint>(rt: &R) -> Result<bool> {
     let alloc = rt.alloc();
     let words: Vec<String> = env::args(rt)?.collect(alloc)?;
     match Options::read(alloc, words.as_slice()) {
-        Ok(options) => attend(rt, options)?,
+        Ok(options) => {
+            let mut reader = rt.reader();
+            let mut writer = io::writer(rt);
+            let _unmounted = attend(rt, options, &mut reader, &mut writer)?;
+        }
         Err(error) => {
             error.print(rt)?;
             return Ok(!error.use_stderr());

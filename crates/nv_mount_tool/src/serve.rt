@@ -6,8 +6,10 @@ ghost use Rattle.nv_fuse.specs.Fields.{field};
 ghost use Rattle.nv_fuse.specs.Replies.{reply_length};
 ghost use Rattle.nv_fuse.specs.Requests.{IsRequest};
 ghost use Rattle.nv_fuse.specs.Stream.{IsFront};
+ghost use Rattle.nv_mount_answers.specs.declared.kept.Time.{Time as TimeValue};
 ghost use Rattle.nv_mount_beside.specs.declared.outcome.Outcome.{Outcome as OutcomeValue};
-ghost use Rattle.nv_mount_tool.specs.Serve.{Replies, Serves, ServesNext, StopsAt, WaitsOn, counted};
+ghost use Rattle.nv_mount_tool.specs.Answered.{Answers, OneMount};
+ghost use Rattle.nv_mount_tool.specs.Serve.{IsTimeOf, Replies, Serves, ServesNext, StopsAt, WaitsOn, counted};
 
 use crate::stream::{Brought, Stream, StreamError};
 use crate::world::OneActor;
@@ -65,7 +67,7 @@ impl From<AllocError> for ServeError {
 /// The time of requests: a fixed one, or else the clock's.
 pub(crate) fn time_of<R: Clock>(rt: &R, fixed: Option<u64>) -> Time
     // A fixed time is told in whole seconds.
-    ensures { IfSome fixed (λ seconds. result ≡ record { seconds = seconds; nanoseconds = 0 }) }
+    ensures { IsTimeOf fixed result }
 {
     let (seconds, nanoseconds) = match (fixed, rt.since_1970()) {
         (Some(seconds), _) => (seconds, 0),
@@ -113,8 +115,9 @@ fn answer(
     reply: &mut Vec<u8>,
 ) -> Result<(), AllocError>
     requires { IsRequest request.now }
-    // The reply is to this request, and tells what the mount answers.
+    // The mount answers what the bytes are read as, and the reply to this request tells that outcome.
     ensures { OnOk result ((outcome : OutcomeValue)
+        × Answers mount.old now request.now outcome mount.new
         × Replies (field 8 8 request.now) outcome reply.new.items) }
 {
     let Some(request) = Request::read(request) else {
@@ -208,9 +211,13 @@ impl Serving {
         reader: &mut S,
         writer: &mut W,
     ) -> Result<bool, ServeError>
-        // Whatever pieces it comes in, what is read is cut where the lengths of requests tell, and each is served.
-        ensures served { (came : List ℕ) × Consumes (S.remaining reader.old) (S.remaining reader.new) came
-            × Serves came self.old self.new (W.contents writer.old) (W.contents writer.new) }
+        // Whatever pieces it comes in, what is read is cut where the lengths of requests tell. Each is served in turn,
+        // by the mount that the one before it left.
+        ensures served { (came : List ℕ) × (last : OneMount)
+            × Consumes (S.remaining reader.old) (S.remaining reader.new) came
+            × OnOk result (self.new.mount ≡ last)
+            × Serves (IsTimeOf fixed) came self.old self.new last
+            (W.contents writer.old) (W.contents writer.new) }
         // No request waits in the end. Before the end of the input only an unmount ends it.
         ensures end { IfOk result (λ unmounted. (self.new.stream ≡ [])
             × (unmounted ≡ false → IsAtEnd (S.remaining reader.new))) }
@@ -243,8 +250,10 @@ impl Serving {
 
     /// Answers all requests that wait whole.
     fn answer_all<W: Write>(&mut self, now: Time, writer: &mut W) -> Result<(), ServeError>
-        // Each is served in turn.
-        ensures served { Serves [] self.old self.new (W.contents writer.old) (W.contents writer.new) }
+        // Each is served in turn, by the mount that the one before it left.
+        ensures served { (last : OneMount) × OnOk result (self.new.mount ≡ last)
+            × Serves (λ (time : TimeValue). time ≡ now) [] self.old self.new last
+            (W.contents writer.old) (W.contents writer.new) }
         // No whole request is left.
         ensures ok { OnOk result (IsFront self.new.stream Front.Part) }
         // A fault tells what waits.
@@ -256,10 +265,12 @@ impl Serving {
 
     /// Answers the next request, where it waits whole. Tells whether it did.
     fn answer_next<W: Write>(&mut self, now: Time, writer: &mut W) -> Result<bool, ServeError>
-        // It is served by one write, and by none where its outcome is silent. Where none is whole nothing changes.
-        ensures ok { IfOk result (λ whole. ServesNext whole self.old self.new (W.contents writer.old)
-            (W.contents writer.new)) }
-        // After a fault all waits as before, and nothing is written.
+        // The mount answers it, and then cleans. It is served by one write, and by none where its outcome is silent.
+        // Where none is whole nothing changes.
+        ensures ok { IfOk result (λ whole. ServesNext whole now self.old self.new
+            (W.contents writer.old) (W.contents writer.new)) }
+        // After a fault all waits as before, and nothing is written. Where there is no memory for a reply, the mount
+        // has answered its request.
         ensures err { OnErr result (WaitsOn self.old self.new (W.contents writer.old)
             (W.contents writer.new)) }
         ensures fault { IfErr result (λ error. StopsAt error self.new.stream) }

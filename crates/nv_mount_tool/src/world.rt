@@ -1,5 +1,7 @@
 //! A world that one actor asks.
 
+ghost use Rattle.std.specs.Prelude.{◌≡◌};
+
 use nv_base::Fault;
 use nv_calls::{Answer, Call};
 use nv_core::{CallFault, World};
@@ -15,7 +17,9 @@ pub struct OneActor {
 }
 
 impl OneActor {
-    pub(crate) fn new(world: World) -> OneActor {
+    pub(crate) fn new(world: World) -> OneActor
+        ensures { result.world ≡ world }
+    {
         OneActor { world }
     }
 

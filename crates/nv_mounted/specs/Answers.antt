@@ -70,6 +70,7 @@ answer_of side now header (operations.Rename to old new) =
     ByChange (rename side now header.node old.now to new.now 0)
 answer_of side now header (operations.Rename2 to flags old new) =
     ByChange (rename side now header.node old.now to new.now flags)
+answer_of side now header (operations.Link linked name) = AtOnce (refused errno.NotPermitted)
 answer_of side now header (operations.Create flags mode umask name) =
     ByChange (create side now header mode name.now)
 answer_of side now header (operations.GetAttributes flags file) =

@@ -5,6 +5,7 @@ pub mod Dialogues
 pub mod Entries
 pub mod Listings
 pub mod Makings
+pub mod NewMounts
 pub mod Renames
 pub mod Sets
 pub mod Side

@@ -1,19 +1,27 @@
 //! A mounted world.
 
-ghost use Rattle.std.specs.Prelude.{◌≡◌};
+ghost use Rattle.std.specs.Prelude.{◌≡◌, Ok, Err, IfErr, IfOk};
 ghost use Rattle.nv_mount_answers.specs.Nodes.{root};
 ghost use Rattle.nv_mounted.specs.Answers.{IsAnswered};
+ghost use Rattle.nv_mounted.specs.Dialogues.{IsHad};
+ghost use Rattle.nv_mounted.specs.NewMounts.{Begins, make_hidden};
 
-use crate::directories::Directories;
+use crate::asks::{ask_handle, copy_of};
+use crate::make::permissions;
 use crate::side::Side;
-use crate::snapshots::Snapshots;
 use crate::world::Core;
-use nv_base::{Bytes, Gen, Handle, Ino, Mode};
-use nv_calls::{Answer, Call};
-use nv_fuse::{Errno, Request};
+use nv_base::{Gen, Handle, Ino};
+use nv_calls::Call;
+use nv_fuse::Request;
 use nv_mount_answers::Time;
 use nv_mount_beside::{HIDDEN, Nodes, Outcome, Refusal};
 use std::alloc::Global;
+
+/// A world has at most so many slots of inodes.
+const SLOTS: u64 = 65_536;
+
+/// Only its owner may read, write and search the directory of hidden files.
+const OWNERS: u32 = 0o700;
 
 /// A world with what it has no place for. One kernel makes all its requests, one after another.
 #[derive(Drop)]
@@ -36,28 +44,30 @@ pub(crate) fn root() -> Handle
     }
 }
 
+/// Makes the directory of hidden files.
+fn make_hidden<C: Core>(alloc: Global, core: &mut C) -> Result<Handle, Refusal>
+    // One call makes it in the root.
+    ensures { IsHad C.Tells make_hidden core.old result core.new }
+{
+    let (dir, name, mode) = (root(), copy_of(alloc, HIDDEN)?, permissions(OWNERS)?);
+    ask_handle(core, Call::Mkdir { dir, name, mode })
+}
+
 impl<C: Core> Mount<C> {
     /// Mounts a new world, whose root has no name yet. It gets the directory of hidden files.
-    pub fn new(alloc: Global, core: C, now: Time) -> Result<Mount<C>, Refusal> {
-        let room = core.room();
-        let nodes = Nodes::new(alloc, room.inodes.min(65_536), now)?;
-        let name = Bytes::from_vec(HIDDEN.to_vec(alloc)?);
-        let Some(mode) = Mode::checked(0o700) else {
-            return Err(Refusal::Errno(Errno::Invalid));
-        };
+    pub fn new(alloc: Global, core: C, now: Time) -> Result<Mount<C>, Refusal>
+        // A new mount has the world in which the hidden directory was made, and nothing else beside it.
+        ensures ok { IfOk result (λ mount.
+            Begins C.Tells C.HasRoom core now (Ok mount.side) mount.core) }
+        // It is refused where that call is, or for want of memory.
+        ensures err { IfErr result (λ refusal.
+            (left : C) × Begins C.Tells C.HasRoom core now (Err refusal) left) }
+    {
+        let slots = core.room().inodes.min(SLOTS);
+        let nodes = Nodes::new(alloc, slots, now)?;
         let mut core = core;
-        let dir = root();
-        let Answer::Made(hidden) = core.call(Call::Mkdir { dir, name, mode })? else {
-            return Err(Refusal::Errno(Errno::InputOutput));
-        };
-        let side = Side {
-            hidden,
-            nodes,
-            directories: Directories::new(alloc),
-            snapshots: Snapshots::new(alloc),
-            told: None,
-            due: None,
-        };
+        let hidden = make_hidden(alloc, &mut core)?;
+        let side = Side::new(alloc, hidden, nodes);
         Ok(Mount { alloc, core, side })
     }
 
@@ -71,7 +81,10 @@ impl<C: Core> Mount<C> {
     }
 
     /// The world.
-    pub fn core(&self) -> &C {
+    pub fn core(&self) -> &C
+        // It is the one that the mount asks.
+        ensures { result.now ≡ self.now.core }
+    {
         &self.core
     }
 }

@@ -100,6 +100,7 @@ impl<C: Core> Mount<C> {
                 old,
                 new,
             } => self.rename(now, number, old, to, new, flags),
+            Operation::Link { .. } => Err(Refusal::Errno(Errno::NotPermitted)),
             Operation::Create { mode, name, .. } => self.create(now, header, mode, name),
             Operation::GetAttributes { .. } => self.get_attributes(number),
             Operation::SetAttributes(set) => self.set_attributes(now, number, &set),

@@ -1,6 +1,7 @@
 //! What a world has no place for.
 
 ghost use Rattle.std.specs.Prelude.{◌≡◌};
+ghost use Rattle.nv_mounted.specs.NewMounts.{new_side};
 ghost use Rattle.nv_mounted.specs.Side.{at_node, put_node, touched};
 
 use crate::directories::Directories;
@@ -9,6 +10,7 @@ use crate::world::Room;
 use nv_base::{Handle, Ino};
 use nv_mount_answers::Time;
 use nv_mount_beside::{Beside, Nodes};
+use std::alloc::Global;
 
 /// The room that was told last, and in which second.
 #[derive(Clone, Copy, Debug, PartialEq, Eq, Drop)]
@@ -35,6 +37,21 @@ pub struct Side {
 }
 
 impl Side {
+    /// What a new mount has beside its world.
+    pub(crate) fn new(alloc: Global, hidden: Handle, nodes: Nodes) -> Side
+        // No directory is open, no snapshot has a name, and nothing was told or is to be cleaned.
+        ensures { result ≡ new_side hidden nodes }
+    {
+        Side {
+            hidden,
+            nodes,
+            directories: Directories::new(alloc),
+            snapshots: Snapshots::new(alloc),
+            told: None,
+            due: None,
+        }
+    }
+
     /// What stands beside a node.
     pub(crate) fn at(&self, handle: &Handle) -> Beside
         // It is what the table of nodes has.

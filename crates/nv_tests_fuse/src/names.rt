@@ -53,6 +53,14 @@ fn reads_new_names(rt: HostRuntime) -> Result<(), Fail> {
             },
         ),
         (
+            13,
+            b"\x01\x02\0\0\0\0\0\x80ab\0".as_slice(),
+            Operation::Link {
+                linked: 0x8000_0000_0000_0201,
+                name,
+            },
+        ),
+        (
             35,
             b"\x41\x80\0\0\xa4\x81\0\0\x12\0\0\0\0\0\0\0ab\0".as_slice(),
             Operation::Create {

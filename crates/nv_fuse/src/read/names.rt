@@ -65,6 +65,21 @@ pub(crate) fn mkdir(body: &[u8]) -> Operation<'_>
     }
 }
 
+pub(crate) fn link(body: &[u8]) -> Operation<'_>
+    ensures { IsRead 13 body.now result }
+{
+    if body.len() < 8 {
+        return Operation::Malformed;
+    }
+    match cut_name(&body[8..]) {
+        None => Operation::Malformed,
+        Some((name, _)) => Operation::Link {
+            linked: long(body, 0),
+            name,
+        },
+    }
+}
+
 pub(crate) fn create(body: &[u8]) -> Operation<'_>
     ensures { IsRead 35 body.now result }
 {

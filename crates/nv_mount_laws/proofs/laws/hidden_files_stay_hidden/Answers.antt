@@ -1,8 +1,13 @@
+use Rattle.nv_mount_laws.proofs.Requests.{requests_keep}
+use Rattle.nv_mount_laws.proofs.AsideRequests.{cleanings_keep}
 use Rattle.nv_mount_laws.proofs.Makings.{creates_keep, mkdirs_keep, mknods_keep}
 use Rattle.nv_mount_laws.proofs.Sets.{sets_keep}
-use Rattle.nv_mount_laws.proofs.Contents.{fallocates_keep, writes_keep}
+use Rattle.nv_mount_laws.proofs.BytesKept.{fallocates_keep, writes_keep}
+use Rattle.nv_mount_laws.proofs.Mounts.{mounts_hidden}
 use Rattle.nv_mount_laws.proofs.NewMounts.{new_hidden}
-use Rattle.nv_mount_laws.proofs.Stays.{openings_keep, releases_keep, rmdirs_keep, unlinks_keep}
+use Rattle.nv_mount_laws.proofs.RenamesKeep.{renames_keep}
+use Rattle.nv_mount_laws.proofs.ReleasedFiles.{release_files_keep}
+use Rattle.nv_mount_laws.proofs.Stays.{openings_keep, rmdirs_keep, unlinks_keep}
 use Rattle.nv_mount_laws.proofs.laws.hidden_files_stay_hidden.Goals as goal
 
 pub returns-clause-unlink : goal.returns-clause-unlink
@@ -15,7 +20,7 @@ pub returns-clause-open : goal.returns-clause-open
 returns-clause-open c = openings_keep
 
 pub returns-clause-release : goal.returns-clause-release
-returns-clause-release c = releases_keep
+returns-clause-release c = release_files_keep
 
 pub returns-clause-new : goal.returns-clause-new
 returns-clause-new c = new_hidden
@@ -37,3 +42,15 @@ returns-clause-mkdir c = mkdirs_keep
 
 pub returns-clause-create : goal.returns-clause-create
 returns-clause-create c = creates_keep
+
+pub returns-clause-rename : goal.returns-clause-rename
+returns-clause-rename c = renames_keep
+
+pub returns-clause-clean : goal.returns-clause-clean
+returns-clause-clean c = cleanings_keep
+
+pub returns-clause-request : goal.returns-clause-request
+returns-clause-request c = requests_keep
+
+pub returns-clause-mount : goal.returns-clause-mount
+returns-clause-mount c = mounts_hidden

@@ -1,4 +1,4 @@
-use Rattle.std.proofs.Common.{◌≡◌, ◌∙◌, ◌≤◌, ◌++◌, ℕ, List, rules, drop, length, take, ap, subst, sym}
+use Rattle.std.proofs.Common.{◌≡◌, ◌∙◌, ◌≤◌, ◌++◌, ℕ, List, rules, drop, length, take, ap, refl, subst, sym}
 use Rattle.std.specs.Io.KnownBytes.{Appends}
 use Rattle.std.proofs.Math.Seq.{drop-append_seam}
 use Rattle.nv_mount_tool.proofs.serve.Serving.answer_next.Goals as goal
@@ -15,13 +15,17 @@ returns-clause-ok g c =
     record {
       one = record {
         request = request;
+        now = c.args.now;
         outcome = answered.0;
         reply = reply;
         taken = c.send-taken.result;
       };
+      time = refl;
       served = record {
-        request = whole.1;
-        reply = answered.1;
+        between = c.answer.new.mount;
+        answered = answered.1;
+        cleaned = search rules;
+        reply = answered.2;
         taken = subst (λ (v : List ℕ). c.send-taken.result ≤ length v) bytes c.send-taken.ensures.most;
       };
       cut = sym whole.0 ∙ ap (λ v. request ++ v) (sym left);
