@@ -51,6 +51,14 @@ impl Files {
         Ok(Files { alloc, world })
     }
 
+    /// The world, to be looked at: its reports, its whole tree and its audit.
+    pub fn world(&self) -> &World
+        // The world that is lent is that of the files.
+        ensures { result.now ≡ self.now }
+    {
+        &self.world
+    }
+
     /// The world, for who makes steps of calls one by one.
     pub fn into_world(self) -> World
         // The world is given as it is.

@@ -1,0 +1,5 @@
+pub mod Loosened
+pub mod Made
+pub mod Paths
+pub mod Slotted
+pub mod Statuses

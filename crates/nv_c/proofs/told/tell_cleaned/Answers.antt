@@ -1,0 +1,13 @@
+use Rattle.std.proofs.Common.{sym}
+use Rattle.nv_calls.specs.declared.answer.Answer.TheVariants as answers
+use Rattle.nv_clean.specs.declared.cleaned.Cleaned.{Cleaned}
+use Rattle.nv_c.proofs.Statuses.{starved_err, starved_ok}
+use Rattle.nv_c.proofs.told.tell_cleaned.Goals as goal
+
+pub returns-in-Ok-clause-told : goal.returns-in-Ok-clause-told
+returns-in-Ok-clause-told c = λ call old new leads.
+    starved_ok c.args.outcome call (λ (v : Cleaned). answers.Cleaned v.thorough v.entries v.pages) _ old new c.in-Ok.cleaned c.in-Ok.is (sym c.of.ensures.told) leads
+
+pub returns-in-Err-clause-told : goal.returns-in-Err-clause-told
+returns-in-Err-clause-told c = λ call old new leads.
+    starved_err c.args.outcome call (λ (v : Cleaned). answers.Cleaned v.thorough v.entries v.pages) _ old new c.in-Err.fault c.number_of.result c.in-Err.is c.number_of.ensures.number leads

@@ -1,0 +1,5 @@
+pub mod Bytes
+pub mod Numbers
+pub mod Owned
+pub mod Status
+pub mod Worlds
