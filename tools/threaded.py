@@ -1,0 +1,109 @@
+"""What tools/threads and tools/stress-threads begin with: a caller of the service in threads, from the texts in tools/threaded."""
+
+import pathlib
+import re
+import shutil
+import subprocess
+import sys
+import tempfile
+
+ROOT = pathlib.Path(__file__).resolve().parent.parent
+TEXTS = ROOT / "tools/threaded"
+CRATE = "nv_threaded"
+LIBRARIES = "nv_base nv_calls nv_core nv_service nv_script anyhow"
+# Functions that run under a lock from their beginning to their end: of each lock the file, the function, and the path of its symbol. They
+# are built apart from those that call them, so that their instructions can be told.
+HELD = {
+    "commit lock": [
+        ("nv_service/src/commit.rt", "commit_over", "nv_service::commit::commit_over"),
+        ("nv_service/src/book.rt", "drop_snapshot", "nv_service::book::LockedBook::drop_snapshot"),
+    ],
+    "files' locks": [
+        ("nv_service/src/guards.rt", "change_taken", "nv_service::guards::change_taken"),
+        ("nv_service/src/held.rt", "take_out", "nv_service::held::take_out"),
+        ("nv_service/src/held.rt", "put_back", "nv_service::held::put_back"),
+        ("nv_service/src/cleaners.rt", "clean_log", "nv_service::cleaners::clean_log"),
+        ("nv_calls/src/view.rt", "read_on", "nv_calls::view::read_on"),
+        ("nv_service/src/visits.rt", "see", "nv_service::session::Session::see"),
+    ],
+    "lists' locks": [
+        ("nv_service/src/asking.rt", "take_from", "nv_service::asking::Asking::take_from"),
+        ("nv_service/src/giving_back.rt", "give_blocks", "nv_service::giving_back::Giving::give_blocks"),
+    ],
+    "pool's lock": [
+        ("nv_alloc/src/inode_pool.rt", "take", "nv_alloc::inode_pool::InodePool::take"),
+        ("nv_service/src/giving_back.rt", "put_back", "nv_service::giving_back::Giving::put_back"),
+    ],
+}
+
+
+def make_edit(copy, path):
+    """Makes an edit in the copy of the crate that its folder names, or that a line `crate: ` does: pairs of an old line and a new one."""
+    crate = next((part for part in reversed(pathlib.Path(path).resolve().parts) if part.startswith("nv_")), None)
+    place = old = None
+    for line in pathlib.Path(path).read_text(encoding="utf-8").splitlines():
+        word, _, rest = line.partition(":")
+        rest = rest.removeprefix(" ")
+        if word == "crate":
+            crate = rest
+        elif word == "file":
+            place = copy / "crates" / (crate or "") / rest
+        elif word == "old":
+            old = rest
+        elif word == "new":
+            text = place.read_text(encoding="utf-8")
+            if text.count(old) != 1:
+                sys.exit(f"{path}: {old!r} stands {text.count(old)} times in {place.relative_to(copy)}")
+            place.write_text(text.replace(old, rest), encoding="utf-8")
+
+
+def keep_apart(copy):
+    """Has each function that runs under a lock built apart."""
+    for file, name, _ in (it for held in HELD.values() for it in held):
+        path = copy / "crates" / file
+        text = path.read_text(encoding="utf-8") if path.is_file() else ""
+        text, count = re.subn(rf"^( *)((?:pub(?:\(crate\))? )?fn {name}\b)", r"\1#[inline(never)]\n\1\2", text, flags=re.M)
+        if count != 1:
+            sys.exit(f"{file} has {count} functions {name}: HELD in tools/threaded.py names those that run under a lock")
+        path.write_text(text, encoding="utf-8")
+
+
+def make_copy(copy, edits):
+    """The crates, and the caller as one of them."""
+    shutil.copytree(ROOT / "crates", copy / "crates", ignore=shutil.ignore_patterns("out", "proofs"))
+    shutil.copy(ROOT / "HANDLES", copy)
+    source = copy / "crates" / CRATE / "src"
+    source.mkdir(parents=True)
+    for text in TEXTS.glob("*.txt"):
+        shutil.copy(text, source / f"{text.stem}.rt")
+    lines = (ROOT / "crates.txt").read_text(encoding="utf-8")
+    (copy / "crates.txt").write_text(f"{lines}{CRATE}: {LIBRARIES}\n", encoding="utf-8")
+    for path in edits:
+        make_edit(copy, path)
+    keep_apart(copy)
+
+
+def is_fresh(program, edits):
+    """Whether the program was built after the last change of what it is built from."""
+    if not program.is_file():
+        return False
+    sources = [*(ROOT / "crates").glob("*/src/**/*.rt"), *(ROOT / "crates").glob("*/specs/**/*.antt"), *TEXTS.glob("*.txt")]
+    newest = max(it.stat().st_mtime for it in [*sources, *map(pathlib.Path, edits), pathlib.Path(__file__)])
+    return newest < program.stat().st_mtime
+
+
+def built(program, edits=()):
+    """Builds the caller as this file, unless it is there and no source is newer."""
+    program = pathlib.Path(program).resolve()
+    if missing := [it for it in edits if not pathlib.Path(it).is_file()]:
+        sys.exit(f"{missing[0]}: there is no such edit")
+    if is_fresh(program, edits):
+        return str(program)
+    print(f"{program} is built, in some three minutes", file=sys.stderr, flush=True)
+    with tempfile.TemporaryDirectory() as folder:
+        copy = pathlib.Path(folder)
+        make_copy(copy, edits)
+        made = subprocess.run([ROOT / "tools/build-unproved", program, copy / "crates" / CRATE], stderr=subprocess.PIPE, text=True)
+    if made.returncode != 0:
+        sys.exit(f"{made.stderr}{program} could not be built")
+    return str(program)
