@@ -1,8 +1,13 @@
 pub mod AfterMoves
 mod CheckedOver
+pub mod CleanerRuns
+pub mod CleaningTurns
 pub mod Closes
+mod Draining
+mod FirstHomes
 mod Found
 pub mod Giving
+pub mod Holding
 pub mod ListCells
 pub mod TakenCells
 pub mod Misnamed
@@ -12,6 +17,7 @@ pub mod NotOlder
 mod Nothing
 mod OtherRefusals
 pub mod PartBlocks
+mod Pool
 mod Raised
 mod ReadyOver
 mod Refusals
@@ -22,4 +28,8 @@ mod Takings
 mod Told
 pub mod Turning
 mod Turns
+mod Underway
 pub mod Versions
+mod ViewRuns
+mod BookLeft
+mod ShowTurns

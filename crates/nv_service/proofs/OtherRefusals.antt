@@ -4,7 +4,7 @@ use Rattle.std.specs.Prelude.{Contains, IfErr, IsErrAnd, IsOk, MatchResult, Resu
 use Rattle.std.specs.Option.{IsSomeAnd}
 use Rattle.std.proofs.lemmas.Bool.{cases_lt}
 use Rattle.nv_base.specs.Memory.{out_of_memory}
-use Rattle.nv_base.specs.Refusals.{FailsAsChecked, FailsEither, FailsOnly}
+use Rattle.nv_base.specs.Refusals.{FailsAsChecked, FailsEither}
 use Rattle.nv_base.specs.declared.fault.MismatchPart.{MismatchPart}
 use Rattle.nv_base.specs.declared.fault.Fault.{Fault}
 use Rattle.nv_base.specs.declared.fault.Fault.TheVariants as fault
@@ -16,7 +16,7 @@ use Rattle.nv_calls.specs.declared.call.Call.TheVariants as call
 use Rattle.nv_calls.specs.declared.view.View.{View}
 use Rattle.nv_cell.specs.Cell.{CellValue}
 use Rattle.nv_epoch.specs.SnapList.{IsSound, Snapshots}
-use Rattle.nv_service.specs.Refusing.{IsMisfit, IsMisfitOrWant, view_faults}
+use Rattle.nv_service.specs.Refusing.{IsMisfit, view_faults}
 use Rattle.nv_service.proofs.Refusals.{Within, dir_within, file_within, look, node_within, refused_as}
 
 -- ---- views
@@ -116,20 +116,6 @@ fault_or faults why one has (inr misfit) = inr misfit
 pub misfit_or : (faults : List Fault) (why one : Fault) (p : MismatchPart) → Contains faults one → (why ≡ one) ⊎ (why ≡ fault.Mismatch p)
     → Contains faults why ⊎ IsMisfit why
 misfit_or faults why one p has is = fault_or faults why one has (elim is [ inl same ↦ inl same | inr wrong ↦ inr (p, wrong) ])
-
-pub only_in : {A : Type 0} (faults : List Fault) (result : Result A Fault) (one : Fault) → Contains faults one → FailsOnly one result
-    → IfErr result (λ why. Contains faults why ⊎ IsMisfit why)
-only_in faults (Ok done) one has is = tt
-only_in faults (Err why) one has is = inl (subst (Contains faults) (sym is) has)
-
--- what a cleaner that moves entries may be refused for
-pub moving_in : {A : Type 0} (faults : List Fault) (result : Result A Fault) → Contains faults fault.NoSpace
-    → Contains faults out_of_memory → IfErr result (λ why. (why ≡ fault.NoSpace) ⊎ IsMisfitOrWant why)
-    → IfErr result (λ why. Contains faults why ⊎ IsMisfit why)
-moving_in faults (Ok done) space memory is = tt
-moving_in faults (Err why) space memory (inl full) = inl (subst (Contains faults) (sym full) space)
-moving_in faults (Err why) space memory (inr (inl misfit)) = inr misfit
-moving_in faults (Err why) space memory (inr (inr wanted)) = inl (subst (Contains faults) (sym wanted) memory)
 
 pub either_in : {A : Type 0} (faults : List Fault) (result : Result A Fault) (one other : Fault) → Contains faults one
     → Contains faults other → FailsEither one other result → IfErr result (λ why. Contains faults why ⊎ IsMisfit why)

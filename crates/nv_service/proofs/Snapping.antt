@@ -1,12 +1,9 @@
 -- How many snapshots live once one was made or dropped, and what that counts as.
-use Rattle.std.proofs.Common.{◌≡◌, ◌∙◌, ◌+◌, ◌-◌, ◌<◌, ◌==◌, ℕ, suc, Bool, true, false, not, List, [], ◌∷◌, All, Some, ap, arith, cond, length, length-append, refl, subst, sym}
-use Rattle.std.specs.Prelude.{OnOk, Result, Ok, Err}
+use Rattle.std.proofs.Common.{◌≡◌, ◌∙◌, ◌+◌, ◌-◌, ◌<◌, ◌==◌, ◌⊎◌, ℕ, suc, Bool, true, false, not, List, [], ◌∷◌, All, Some, ap, arith, cond, inl, inr, length, length-append, refl, subst, sym}
 use Rattle.std.proofs.lemmas.Bool.{eqb-true, ne_eqb}
 use Rattle.std.proofs.lemmas.List.{length-map}
 use Rattle.std.proofs.lemmas.List.Elements.{All-head, All-tail}
-use Rattle.nv_base.specs.Refusals.{KeepsOnErr}
-use Rattle.nv_base.specs.declared.fault.Fault.{Fault}
-use Rattle.nv_book.specs.Book.{BookValue}
+use Rattle.nv_book.specs.Book.{BookState, BookValue, after_pin_snapshot, after_unpin_snapshot}
 use Rattle.nv_epoch.specs.Holders.{IsRising}
 use Rattle.nv_epoch.specs.SnapList.{Snapshots, after_making, after_pin, after_removal, after_unpin, ids, living_without, numbers, pins_at, pins_of, repinned}
 use Rattle.nv_epoch.specs.declared.snapshot.Snapshot.{Snapshot}
@@ -70,8 +67,18 @@ abbrev pub IsCounted : ℕ → ℕ → ℕ → ℕ → ℕ → BookValue → Typ
 IsCounted commit living epoch commits snapped book =
     (book.state.commit ≡ commit + commits) × AreSnapped living epoch book.state.snaps snapped
 
--- a call that changes a book where it is not refused
-pub changed_or_not : {A : Type 0} (P : BookValue → Type 0) (result : Result A Fault) (old changed new : BookValue)
-    → OnOk result (new ≡ changed) → KeepsOnErr result old new → P changed → P old → P new
-changed_or_not P (Ok done) old changed new is same after before = subst P (sym is) after
-changed_or_not P (Err why) old changed new is same after before = subst P (sym same) before
+-- ledgers that count a book
+abbrev Counted : ℕ → ℕ → ℕ → ℕ → ℕ → BookState → Type 0
+Counted commit living epoch commits snapped book = (book.commit ≡ commit + commits) × AreSnapped living epoch book.snaps snapped
+
+module _ (commit living epoch commits snapped : ℕ) (old new : BookValue) (s : ℕ) (was : IsCounted commit living epoch commits snapped old) where
+  -- a pin, or one that was refused
+  pub pinned_book : (new.state ≡ after_pin_snapshot s old.state) ⊎ (new.state ≡ old.state)
+      → IsCounted commit living epoch commits snapped new
+  pinned_book (inl is) =
+      subst (Counted commit living epoch commits snapped) (sym is) (was.0, pinned_one living epoch snapped old.state.snaps s was.1)
+  pinned_book (inr is) = subst (Counted commit living epoch commits snapped) (sym is) was
+
+  pub unpinned_book : new.state ≡ after_unpin_snapshot s old.state → IsCounted commit living epoch commits snapped new
+  unpinned_book is =
+      subst (Counted commit living epoch commits snapped) (sym is) (was.0, unpinned_one living epoch snapped old.state.snaps s was.1)

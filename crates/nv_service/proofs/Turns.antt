@@ -1,9 +1,8 @@
 -- The turn of a seat's takings once a call is refused.
-use Rattle.std.proofs.Common.{◌≡◌, ◌∙◌, ◌⊎◌, ℕ, zero, suc, Bool, List, [], ◌∷◌, ap, arith, inl, inr, refl, sym}
+use Rattle.std.proofs.Common.{◌≡◌, ◌∙◌, ℕ, zero, suc, Bool, List, [], ◌∷◌, ap, arith, inl, inr, refl, sym}
 use Rattle.std.specs.Prelude.{Contains, IfErr, IsErrAnd, Result, Ok, Err}
 use Rattle.std.specs.List.{AllByRecursion}
 use Rattle.nv_base.specs.Memory.{out_of_memory}
-use Rattle.nv_base.specs.Refusals.{FailsOnly}
 use Rattle.nv_base.specs.declared.fault.Fault.{Fault}
 use Rattle.nv_base.specs.declared.fault.Fault.TheVariants as fault
 use Rattle.nv_base.specs.declared.fault.MismatchPart.{MismatchPart}
@@ -15,7 +14,7 @@ use Rattle.nv_calls.specs.declared.update.Update.TheVariants as update
 use Rattle.nv_cell.specs.Cell.{CellValue}
 use Rattle.nv_service.specs.Asking.{IsNoShortage, turned_by, turned_in}
 use Rattle.nv_service.specs.Committing.{RefusesCommit}
-use Rattle.nv_service.specs.Refusing.{IsMisfit, MayRefuseCheck, check_faults}
+use Rattle.nv_service.specs.Refusing.{MayRefuseCheck, check_faults}
 
 -- the exit of a `?`
 pub turned_out : {A : Type 0} (result : Result A Fault) (why : Fault) (old new : Bool) → IsErrAnd result (λ f. f ≡ why)
@@ -30,19 +29,6 @@ memory_keeps why is = λ turn. ap (λ (f : Fault). turned_by f turn) (sym is)
 
 pub misfit_keeps : (why : Fault) (p : MismatchPart) → why ≡ fault.Mismatch p → IsNoShortage why
 misfit_keeps why p is = λ turn. ap (λ (f : Fault). turned_by f turn) (sym is)
-
--- and so does a slot without an inode
-pub stale_keeps : (why : Fault) → (why ≡ fault.Stale) ⊎ IsMisfit why → IsNoShortage why
-stale_keeps why (inl stale) = λ turn. ap (λ (f : Fault). turned_by f turn) (sym stale)
-stale_keeps why (inr (p, is)) = misfit_keeps why p is
-
-pub held_keeps : (why : Fault) → (why ≡ fault.Stale) ⊎ (why ≡ fault.Mismatch part.Lists) → IsNoShortage why
-held_keeps why (inl stale) = stale_keeps why (inl stale)
-held_keeps why (inr wrong) = misfit_keeps why part.Lists wrong
-
-pub memory_only : {A : Type 0} (result : Result A Fault) (turn : Bool) → FailsOnly out_of_memory result → turn ≡ turned_in result turn
-memory_only (Ok done) turn is = refl
-memory_only (Err why) turn is = memory_keeps why is turn
 
 pub commit_keeps : (book : BookValue) (cells : List (ℕ × CellValue)) (ready : ReadyValue) (cpu : ℕ) (why : Fault)
     → RefusesCommit book cells ready cpu why → IsNoShortage why

@@ -1,5 +1,5 @@
 -- When a record can be released from a cell, and when its log can be cleaned.
-use Rattle.std.specs.Prelude.{◌≡◌, ◌==◌, ◌<◌, ◌≤◌, Some, false, length, true}
+use Rattle.std.specs.Prelude.{◌≡◌, ◌==◌, ◌≤◌, Some, false, length, true}
 use Rattle.nv_alloc.specs.declared.hand.Hand.{Hand}
 use Rattle.nv_book.specs.declared.record.Record.{Record}
 use Rattle.nv_calls.specs.Retired.{CanTakeGone}
@@ -10,14 +10,12 @@ use Rattle.nv_cell.specs.declared.mark.Mark.TheVariants.{Kept}
 use Rattle.nv_clean.specs.Cleaned.{HasPages}
 use Rattle.nv_clean.specs.Plans.{UnlinkableValue, WantedValue}
 
--- a record can be released from a cell, with a hand that takes what this sets free
+-- a record can be released from a cell, with a hand that takes what this sets free, where it has room
 pub record CanRelease (cell : CellState) (picked : Record) (hand : Hand) : Type 0 where
   -- its part is marked kept
   pub kept : mark_named cell (name_of picked) ≡ Some Kept
   -- the cell has no entry past its tail
   pub published : cell.chain.tail ≡ length cell.chain.entries
-  -- the hand has room for a data block
-  pub room : 0 < hand.«data».room
   -- the hand is for blocks of the cell's size
   pub size : hand.«data».size ≡ cell.block
   -- where the inode is gone, the hand can take its chain and its number

@@ -1,5 +1,5 @@
 -- What a call leaves in its hand, and what a cleaner needs of it.
-use Rattle.std.specs.Prelude.{◌≡◌, ◌<◌, ◌&&◌, ℕ, Bool, Option, Some, None, if◌then◌else◌, length, nat_lt, not}
+use Rattle.std.specs.Prelude.{◌≡◌, ◌&&◌, ℕ, Bool, Option, Some, None, if◌then◌else◌, length, nat_lt, not}
 use Rattle.nv_alloc.specs.Hand.{blocks_of}
 use Rattle.nv_alloc.specs.InodePool.{FreeInodes}
 use Rattle.nv_alloc.specs.Numbers.{has, put_by}
@@ -8,8 +8,8 @@ use Rattle.nv_calls.specs.declared.snapshot_or_cleaner_call.SnapshotOrCleanerCal
 use Rattle.nv_calls.specs.declared.snapshot_or_cleaner_call.SnapshotOrCleanerCall.TheVariants as snapshot_or_cleaner
 use Rattle.nv_cell.specs.Cell.{CellState}
 use Rattle.nv_service.specs.Cleaning.{IsSettled}
-use Rattle.nv_service.specs.declared.cleaners.Manner.{Manner}
-use Rattle.nv_service.specs.declared.cleaners.Manner.TheVariants as manner
+use Rattle.nv_steps.specs.declared.planning.Manner.{Manner}
+use Rattle.nv_steps.specs.declared.planning.Manner.TheVariants as manner
 
 -- a hand that holds nothing
 pub record IsEmptyHand (hand : Hand) : Type 0 where
@@ -41,8 +41,6 @@ left_over pool (Some ino) = if takes pool ino then None else Some ino
 
 -- a cell can be cleaned, with this hand
 pub record CanClean (block : ℕ) (cell : CellState) (hand : Hand) : Type 0 where
-  -- its log has an entry
-  pub some : 0 < cell.chain.tail
   -- nothing is left to publish or to retire
   pub settled : IsSettled cell
   -- its blocks have the device's size

@@ -4,8 +4,10 @@ pub mod Changing
 pub mod Cleaning
 pub mod Closing
 pub mod Committing
+pub mod Draining
 pub mod Ending
 pub mod Fresh
+pub mod Holding
 pub mod Judging
 pub mod Left
 pub mod Locked
@@ -13,10 +15,13 @@ pub mod Names
 pub mod Opened
 pub mod Opening
 pub mod Refusing
+pub mod Underway
 pub mod UnlockedParts
 pub mod Rounds
 pub mod RunCalls
 pub mod Seats
+pub mod SessionRuns
 pub mod Sessions
+pub mod ShowRuns
 pub mod Snapped
 pub mod Taken

@@ -1,27 +1,36 @@
 //! The book under the commit lock.
 
-ghost use Rattle.std.specs.Prelude.{◌≡◌, ◌+◌, ◌<◌, ◌≤◌, ◌↔◌, ℕ, Bool, [], IfOk, IsOk, IsSome, IsTrue, None, OnErr, OnOk, Some, length, slice_get};
+ghost use Rattle.std.specs.Prelude.{◌≡◌, ◌+◌, ◌<◌, ◌≤◌, ◌↔◌, ℕ, Bool, List, [], IfOk, IsOk, IsTrue, None, OnErr, OnOk, Some, length};
 ghost use Rattle.std.specs.Option.{ForSome, IsSomeAnd};
 ghost use Rattle.nv_base.specs.Memory.{out_of_memory};
-ghost use Rattle.nv_base.specs.Refusals.{FailsEither, FailsOnly, IsRefusedBy, KeepsOnErr};
+ghost use Rattle.nv_base.specs.Refusals.{FailsEither, FailsOnly, IsRefusedBy};
 ghost use Rattle.nv_base.specs.declared.fault.Fault.TheVariants as fault;
 ghost use Rattle.nv_base.specs.declared.geometry.GeometryNumbers.{GeometryNumbers};
 ghost use Rattle.nv_base.specs.declared.limits.TheConstants.{NUMBER, PINS};
-ghost use Rattle.nv_book.specs.Book.{after_drop_snapshot, after_enter, after_make_snapshot, after_pick, after_pin_snapshot, after_unpin_snapshot};
+ghost use Rattle.nv_book.specs.Book.{after_drop_snapshot, after_enter, after_make_snapshot};
 ghost use Rattle.nv_book.specs.Manifests.{gain_of};
 ghost use Rattle.nv_book.specs.Records.{block_count};
 ghost use Rattle.nv_book.specs.Store.{nodes_wanted};
+ghost use Rattle.nv_entry.specs.declared.tree.TreeNode.{TreeNode};
 ghost use Rattle.nv_epoch.specs.Holders.{next_older};
 ghost use Rattle.nv_epoch.specs.SnapList.{ids, pins_of};
+ghost use Rattle.nv_machine.specs.SnapshotOrCleaner.{shown_by};
 ghost use Rattle.nv_machine.specs.World as machine;
-ghost use Rattle.nv_machine.specs.World.{Running, empty_hand};
-ghost use Rattle.nv_steps.specs.OnBook.{IsBefore, on_book};
+ghost use Rattle.nv_machine.specs.World.{HandState, Running, empty_hand};
+ghost use Rattle.nv_service.specs.Draining.{EndsPick, IsPickedFrom};
+ghost use Rattle.nv_steps.specs.Hands.{hand_of};
+ghost use Rattle.nv_steps.specs.OnBook.{IsBefore, IsPickTurn, IsTurnTo, answer_of_show, drain_of, on_book, once_pinned, room_behind, was_granted};
 ghost use Rattle.nv_steps.specs.Turns.{IsEnd};
 
 use crate::names::{Commits, SnapLedger};
+use nv_alloc::Hand;
 use nv_base::{CommitNo, Epoch, Fault};
-use nv_book::{Book, Record};
+use nv_book::Book;
 use nv_calls::Answer;
+use nv_entry::Tree;
+use nv_reader::Showing;
+use nv_steps::Picked;
+use std::alloc::Global;
 use std::marker::Model;
 use std::sync::ledger;
 use std::sync::ledger::Share;
@@ -173,31 +182,52 @@ impl<C: Commits> LockedBook<C> {
         self.book.snaps().pins(s).is_some_and(|pins| pins > 0)
     }
 
-    /// Adds a pin to the snapshot `s`, as [`Book::pin`] does.
-    pub(crate) fn pin(&mut self, s: Epoch) -> Result<(), Fault>
+    /// Adds a pin to the snapshot `s`, and begins a show over so many inodes, as [`nv_steps::pin`] does.
+    pub(crate) fn pin(&mut self, alloc: Global, s: Epoch, inodes: usize) -> Result<Showing, Fault>
         requires { ForSome (pins_of self.old.state.snaps s) (λ pins. pins < PINS) }
-        ensures pinned { IsOk result ↔ IsSome (pins_of self.old.state.snaps s) }
+        // It is one turn of the machine, wherever the other parts are.
+        ensures turn { (numbers : GeometryNumbers) (actor : ℕ) (granted : Bool) (r : Running)
+            → numbers.inodes ≡ inodes → IsBefore (machine.Pin s) r
+            → IsTurnTo numbers actor
+            (on_book r empty_hand granted self.old.state self.new.state) (once_pinned s r) result
+            empty_hand }
         ensures err { FailsOnly fault.NoSnapshot result }
-        ensures ok { OnOk result (self.new
-            ≡ record self.old { state = after_pin_snapshot s self.old.state }) }
-        ensures same { KeepsOnErr result self.old self.new }
     {
-        self.book.pin(s)
+        nv_steps::pin(alloc, &mut self.book, s, inodes)
     }
 
-    /// Takes a pin from the snapshot `s`, as [`Book::unpin`] does.
-    pub(crate) fn unpin(&mut self, s: Epoch)
+    /// Takes a pin from the snapshot `s`, and answers what was shown, as [`nv_steps::unpin`] does.
+    pub(crate) fn unpin(&mut self, s: Epoch, shown: Result<Tree, Fault>) -> Result<Answer, Fault>
         requires { IsSomeAnd (pins_of self.old.state.snaps s) (λ pins. 0 < pins) }
-        ensures { self.new ≡ record self.old { state = after_unpin_snapshot s self.old.state } }
+        // It is one turn of the machine, wherever the other parts are.
+        ensures turn { (numbers : GeometryNumbers) (actor : ℕ) (granted : Bool) (h : HandState)
+            (r : Running) (seen : List TreeNode)
+            → r.next ≡ machine.SnapshotOrCleaner (machine.Unpin s seen)
+            → shown_by r.ending seen ≡ answer_of_show shown
+            → IsEnd numbers actor (on_book r h granted self.old.state self.new.state) result h }
+        // It answers what was seen, or for what the show is refused.
+        ensures told { result ≡ answer_of_show shown }
     {
-        self.book.unpin(s);
+        nv_steps::unpin(&mut self.book, s, shown)
     }
 
-    /// Takes the first deferred record out, if there is one, as [`Book::pick`] does.
-    pub(crate) fn pick(&mut self) -> Option<Record>
-        ensures first { result ≡ slice_get self.old.state.deferred 0 }
-        ensures rest { self.new ≡ record self.old { state = after_pick self.old.state } }
+    /// Picks the first deferred record for a drain that has released so many, as [`nv_steps::pick`] does.
+    pub(crate) fn pick(&mut self, hand: &mut Hand, released: u64) -> Picked
+        requires empty { hand_of hand.old ≡ empty_hand }
+        // It is one turn of the machine, wherever the other parts are.
+        ensures turn { (numbers : GeometryNumbers) (actor left : ℕ) (r : Running)
+            → IsBefore (machine.Pick (drain_of released left)) r → IsPickTurn numbers actor
+            (on_book r empty_hand (was_granted result) self.old.state self.new.state)
+            (drain_of released left) result empty_hand }
+        ensures ends { EndsPick released result }
+        ensures from { IsPickedFrom self.old.state self.new.state result }
+        // A first pick leaves room for a block, and nothing else of the hand changes.
+        ensures hand { hand.new ≡ record hand.old {
+          «data» = record hand.old.data {
+            room = room_behind released (was_granted result) hand.old.data.room;
+          };
+        } }
     {
-        self.book.pick()
+        nv_steps::pick(&mut self.book, hand, released)
     }
 }

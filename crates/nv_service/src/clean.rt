@@ -1,30 +1,32 @@
 //! Changes of one cell under its lock that are no commits: a deferred record is released, and a log is cleaned. The hand
 //! gets what the cell loses, and the shares of both follow. The version stays.
 
-ghost use Rattle.std.specs.Prelude.{◌≡◌, ◌+◌, ◌<◌, ◌≤◌, ◌↔◌, IsTrue, false, length, true};
+ghost use Rattle.std.specs.Prelude.{◌≡◌, ◌==◌, ◌+◌, ◌<◌, ◌≤◌, ◌↔◌, ℕ, Bool, IsTrue, false, length, true};
 ghost use Rattle.nv_alloc.specs.Hand.{blocks_of};
+ghost use Rattle.nv_base.specs.declared.geometry.GeometryNumbers.{GeometryNumbers};
 ghost use Rattle.nv_calls.specs.Retired.{CanTakeGone};
 ghost use Rattle.nv_calls.specs.Retiring.{erased, hand_with, released, released_blocks, with_back};
-ghost use Rattle.nv_cell.specs.Cell.{log_of};
-ghost use Rattle.nv_cell.specs.Removal.{KeepsTheLast};
-ghost use Rattle.nv_clean.specs.Cleaned.{KeepsValues, LeavesNone, NodesStay, answer_of, with_chain, with_entries, with_gone, with_pages_unlinked};
+ghost use Rattle.nv_clean.specs.Cleaned.{answer_of, with_chain, with_entries, with_gone, with_pages_unlinked};
 ghost use Rattle.nv_clean.specs.Plans.{unlinkable_of, wanted_of};
-ghost use Rattle.nv_entry.specs.Clean.{entries_of, select};
-ghost use Rattle.nv_log.specs.Chain.{log_pages};
+ghost use Rattle.nv_machine.specs.SnapshotOrCleaner.{one_more};
+ghost use Rattle.nv_machine.specs.World as machine;
+ghost use Rattle.nv_machine.specs.World.{Draining, Running};
 ghost use Rattle.nv_service.specs.Cleaning.{CanCompact, CanRelease, CanUnlink};
 ghost use Rattle.nv_service.specs.Locked.{IsThere, cell_of};
+ghost use Rattle.nv_steps.specs.Hands.{hand_of};
+ghost use Rattle.nv_steps.specs.OnCell.{IsHolding, on_cell, once_ending};
+ghost use Rattle.nv_steps.specs.Turns.{IsMove};
 
 use crate::cell::LockedCell;
 use crate::names::{Blocks, Commits};
-use nv_alloc::{BlockQueue, Hand};
-use nv_base::limits;
+use nv_alloc::Hand;
 use nv_book::Record;
 use nv_cell::{InodeCell, Mark};
-use nv_clean::{Cleaned, Unlinkable, Wanted, fast_on, laws, release_on, thorough_on};
+use nv_clean::{Cleaned, Unlinkable, Wanted, laws};
 use nv_entry::PartId;
 use std::sync::ledger::Share;
 
-/// Whether a record can be released from a cell, and what this sets free can go to the hand.
+/// Whether a record can be released from a cell, and what this sets free can go to a hand that has room.
 pub(crate) fn can_release(cell: &InodeCell, picked: &Record, hand: &Hand) -> bool
     ensures { IsTrue result ↔ CanRelease cell.now.state picked.now hand.now }
 {
@@ -34,7 +36,6 @@ pub(crate) fn can_release(cell: &InodeCell, picked: &Record, hand: &Hand) -> boo
     };
     cell.mark(part) == Some(Mark::Kept)
         && cell.tail() == cell.len()
-        && hand.data.room() > 0
         && hand.data.block_bytes() as u64 == cell.block_bytes()
         && (!cell.is_gone() || takes_gone(cell, hand))
 }
@@ -61,13 +62,20 @@ fn move_blocks<B: Blocks>(cell: &mut Share<B>, hand: &mut Share<B>, before: u64,
 }
 
 impl<C: Commits, B: Blocks> LockedCell<C, B> {
-    /// Releases a deferred record of the cell, as [`release_on`] does.
+    /// Releases a deferred record of the cell, as [`nv_steps::release`] does.
     pub(crate) fn release(&mut self, picked: Record, hand: &mut Hand, mine: &mut Share<B>)
         requires there { IsThere self.old }
         requires own { picked.ino ≡ self.old.ino }
         requires can { CanRelease (cell_of self.old).state picked hand.old }
+        requires room { 0 < hand.old.data.room }
         requires part { 0 < mine.old.parts }
         requires amount { mine.old.amount ≡ length (blocks_of hand.old) }
+        // It is one turn of the machine, wherever the other parts are.
+        ensures turn { (numbers : GeometryNumbers) (actor : ℕ) (draining : Draining) (r : Running)
+            → IsHolding picked.ino (machine.Release draining picked) r → IsMove numbers actor
+            (on_cell picked.ino r (hand_of hand.old) true (cell_of self.old).state
+            (cell_of self.new).state) (hand_of hand.new)
+            (once_ending (machine.Drains (one_more draining)) r) }
         ensures ino { self.new.ino ≡ self.old.ino }
         ensures cell { (cell_of self.new).state
             ≡ erased (released picked (cell_of self.old).state) }
@@ -86,37 +94,36 @@ impl<C: Commits, B: Blocks> LockedCell<C, B> {
         };
         cell.holds_together();
         let before = hand.len();
-        release_on(cell, picked, hand);
+        nv_steps::release(cell, hand, picked);
         move_blocks(&mut self.blocks, mine, before, hand.len());
     }
 
-    /// Unlinks the pages of the log that a walk over it found, as [`fast_on`] does.
+    /// Unlinks the log pages that the planning found, as [`unlink`](nv_steps::unlink) does.
     pub(crate) fn unlink(
         &mut self,
-        unlinkable: Unlinkable,
+        walk: Unlinkable,
         hand: &mut Hand,
         mine: &mut Share<B>,
     ) -> Cleaned
         requires there { IsThere self.old }
-        requires walk { unlinkable ≡ unlinkable_of (cell_of self.old).state }
-        requires can { CanUnlink (cell_of self.old).state unlinkable hand.old }
+        requires walk { walk ≡ unlinkable_of (cell_of self.old).state }
+        requires can { CanUnlink (cell_of self.old).state walk hand.old }
         requires part { 0 < mine.old.parts }
         requires amount { mine.old.amount ≡ length (blocks_of hand.old) }
+        // It is one turn of the machine, wherever the other parts are.
+        ensures turn { (numbers : GeometryNumbers) (actor ino : ℕ) (granted : Bool) (r : Running)
+            → IsHolding ino (machine.Unlink ino) r
+            → IsMove numbers actor (on_cell ino r (hand_of hand.old) granted
+            (cell_of self.old).state (cell_of self.new).state)
+            (hand_of hand.new) (once_ending (machine.Cleans result) r) }
         ensures ino { self.new.ino ≡ self.old.ino }
         ensures cell { (cell_of self.new).state
-            ≡ with_pages_unlinked unlinkable (cell_of self.old).state }
+            ≡ with_pages_unlinked walk (cell_of self.old).state }
         ensures there { IsThere self.new }
         ensures version { self.new.version ≡ self.old.version }
-        ensures hand { hand.new ≡ with_gone unlinkable (cell_of self.old).state hand.old }
+        ensures hand { hand.new ≡ with_gone walk (cell_of self.old).state hand.old }
         ensures answer { result
             ≡ answer_of false (cell_of self.old).state (cell_of self.new).state }
-        ensures entries { result.entries ≡ unlinkable.entries }
-        ensures pages { result.pages ≡ unlinkable.pages }
-        ensures log { log_of (cell_of self.new).state
-            ≡ entries_of (select unlinkable.stays (log_pages (cell_of self.old).state.chain)) }
-        ensures values { KeepsValues (cell_of self.old).state (cell_of self.new).state }
-        ensures nodes { NodesStay (cell_of self.old).state (cell_of self.new).state }
-        ensures last { KeepsTheLast (cell_of self.old).state (cell_of self.new).state }
         ensures parts { mine.new.parts ≡ mine.old.parts }
         ensures amount { mine.new.amount ≡ length (blocks_of hand.new) }
     {
@@ -126,38 +133,33 @@ impl<C: Commits, B: Blocks> LockedCell<C, B> {
         };
         cell.holds_together();
         let before = hand.len();
-        let cleaned = fast_on(cell, unlinkable, hand);
+        let cleaned = nv_steps::unlink(cell, hand, walk);
         move_blocks(&mut self.blocks, mine, before, hand.len());
         cleaned
     }
 
-    /// Moves the entries of the log that a walk over it found to stay to the log pages of the hand, which gets the old
-    /// ones, as [`thorough_on`] does.
-    pub(crate) fn compact(
-        &mut self,
-        wanted: Wanted,
-        hand: &mut Hand,
-        mine: &mut Share<B>,
-    ) -> Cleaned
+    /// Moves the entries that the planning found to stay to the log pages of the hand, which gets the old ones, as
+    /// [`compact`](nv_steps::compact) does. Some entry goes.
+    pub(crate) fn compact(&mut self, walk: Wanted, hand: &mut Hand, mine: &mut Share<B>) -> Cleaned
         requires there { IsThere self.old }
-        requires walk { wanted ≡ wanted_of (cell_of self.old).state }
-        requires can { CanCompact (cell_of self.old).state wanted hand.old }
+        requires walk { walk ≡ wanted_of (cell_of self.old).state }
+        requires some { (walk.dropped == 0) ≡ false }
+        requires can { CanCompact (cell_of self.old).state walk hand.old }
         requires part { 0 < mine.old.parts }
         requires amount { mine.old.amount ≡ length (blocks_of hand.old) }
+        ensures turn { (numbers : GeometryNumbers) (actor ino : ℕ) (granted : Bool) (r : Running)
+            → IsHolding ino (machine.Compact ino) r
+            → IsMove numbers actor (on_cell ino r (hand_of hand.old) granted
+            (cell_of self.old).state (cell_of self.new).state)
+            (hand_of hand.new) (once_ending (machine.Cleans result) r) }
         ensures ino { self.new.ino ≡ self.old.ino }
         ensures cell { (cell_of self.new).state
-            ≡ with_entries wanted hand.old.pages.blocks (cell_of self.old).state }
+            ≡ with_entries walk hand.old.pages.blocks (cell_of self.old).state }
         ensures there { IsThere self.new }
         ensures version { self.new.version ≡ self.old.version }
-        ensures hand { hand.new ≡ with_chain wanted (cell_of self.old).state hand.old }
+        ensures hand { hand.new ≡ with_chain walk (cell_of self.old).state hand.old }
         ensures answer { result
             ≡ answer_of true (cell_of self.old).state (cell_of self.new).state }
-        ensures log { log_of (cell_of self.new).state
-            ≡ select wanted.stays (log_of (cell_of self.old).state) }
-        ensures none { LeavesNone (cell_of self.old).state (cell_of self.new).state }
-        ensures values { KeepsValues (cell_of self.old).state (cell_of self.new).state }
-        ensures nodes { NodesStay (cell_of self.old).state (cell_of self.new).state }
-        ensures last { KeepsTheLast (cell_of self.old).state (cell_of self.new).state }
         ensures parts { mine.new.parts ≡ mine.old.parts }
         ensures amount { mine.new.amount ≡ length (blocks_of hand.new) }
     {
@@ -167,7 +169,7 @@ impl<C: Commits, B: Blocks> LockedCell<C, B> {
         };
         cell.holds_together();
         let before = hand.len();
-        let cleaned = thorough_on(cell, wanted, hand);
+        let cleaned = nv_steps::compact(cell, hand, walk);
         move_blocks(&mut self.blocks, mine, before, hand.len());
         cleaned
     }

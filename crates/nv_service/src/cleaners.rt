@@ -1,90 +1,104 @@
 //! The cleaners of the log of one inode.
 
-ghost use Rattle.std.specs.Prelude.{◌≡◌, ◌<◌, ◌⊎◌, IfErr, OnOk, length};
+ghost use Rattle.std.specs.Prelude.{◌≡◌, ◌<◌, IfErr, OnOk, length};
 ghost use Rattle.nv_alloc.specs.Hand.{blocks_of};
-ghost use Rattle.nv_clean.specs.Plans.{wanted_of};
-ghost use Rattle.nv_base.specs.Memory.{out_of_memory};
-ghost use Rattle.nv_base.specs.Refusals.{FailsOnly};
-ghost use Rattle.nv_base.specs.declared.fault.Fault.TheVariants.{NoSpace, Stale};
-ghost use Rattle.nv_service.specs.Asking.{turned_in};
+ghost use Rattle.nv_machine.specs.World.{HandState, Running, empty_hand};
 ghost use Rattle.nv_service.specs.Ending.{CanClean, IsEmptyHand, cleaner_of};
-ghost use Rattle.nv_service.specs.Locked.{IsThere, cell_of};
-ghost use Rattle.nv_service.specs.Refusing.{IsMisfit, IsMisfitOrWant, MayRefuseSnapshotOrCleaner};
+ghost use Rattle.nv_service.specs.Holding.{Holds, IsCleaned};
+ghost use Rattle.nv_service.specs.Locked.{IsThere};
+ghost use Rattle.nv_service.specs.Refusing.{IsMisfit, MayRefuseSnapshotOrCleaner};
+ghost use Rattle.nv_service.specs.RunCalls.{cleaning, planning};
+ghost use Rattle.nv_steps.specs.Hands.{hand_of};
+ghost use Rattle.nv_steps.specs.Runs.{Unseen};
 
-use crate::asking::Asking;
 use crate::cell::LockedCell;
-use crate::guards::hold;
+use crate::fresh_pages::take_fresh;
+use crate::guards::hold_at;
 use crate::names::{Blocks, Commits};
 use crate::service::Service;
-use crate::taking::take_blocks;
 use nv_alloc::Hand;
 use nv_base::{Fault, Geometry, Ino, MismatchPart};
 use nv_cell::InodeCell;
-use nv_clean::{Cleaned, Wanted, prefers_thorough, unlinkable, wanted};
+use nv_clean::Cleaned;
+use nv_steps::{Manner, Planned, plan_cleaning};
 use std::sync::Wait;
 use std::sync::ledger::Share;
-
-/// How a cleaner cleans a log: by whole pages, entry by entry, or as the walk of the log finds to be better.
-#[derive(Clone, Copy, Debug, PartialEq, Eq)]
-pub(crate) enum Manner {
-    Fast,
-    Thorough,
-    Auto,
-}
 
 /// Cleans the log of an inode under its lock, also of one that is gone and not yet erased. `number` is that of the seat,
 /// whose CPU's list is asked first for pages. The hand gets the pages that the log loses.
 ///
-/// `Stale` where there is no such slot, or no inode in it; `NoSpace` where each list was asked and they had too few pages
-/// together; `OutOfMemory` where room was refused; `Mismatch` where the cell is not as a cleaner needs it.
+/// `Stale` where the slot has no inode; `NoSpace` where each list was asked and they had too few pages together;
+/// `OutOfMemory` where room was refused; `Mismatch` where the cell is not as a cleaner needs it.
 pub(crate) fn clean_log<C: Commits, B: Blocks, R: Wait>(
     rt: &R,
     service: &Service<C, B>,
     number: u64,
     hand: &mut Hand,
     mine: &mut Share<B>,
-    asking: &mut Asking,
     manner: Manner,
     ino: Ino,
 ) -> Result<Cleaned, Fault>
+    requires inside { ino < service.now.geometry.numbers.inodes }
     requires part { 0 < mine.old.parts }
     requires amount { mine.old.amount ≡ length (blocks_of hand.old) }
     requires empty { IsEmptyHand hand.old }
+    // A cleaner is a run of the machine's turns up to its unlock.
+    ensures run { IsCleaned service.now.geometry.numbers number empty_hand
+        (cleaning service.now.geometry.numbers (cleaner_of manner ino)) result (hand_of hand.new) }
     ensures err { IfErr result (MayRefuseSnapshotOrCleaner (cleaner_of manner ino)) }
     ensures parts { mine.new.parts ≡ mine.old.parts }
     ensures amount { mine.new.amount ≡ length (blocks_of hand.new) }
-    // A cleaner ends by `NoSpace` only where its taking fell short.
-    ensures short { asking.new.turn ≡ turned_in result asking.old.turn }
 {
-    let mut cell = hold(rt, service, ino)?;
+    let Some(lock) = service.inode_lock(ino) else {
+        return Err(Fault::Mismatch(MismatchPart::Lists));
+    };
+    let mut cell = hold_at(rt, lock, ino)?;
+    clean_held(rt, service, number, &mut *cell, hand, mine, manner)
+}
+
+/// Cleans the log of a cell that is held.
+fn clean_held<C: Commits, B: Blocks, R: Wait>(
+    rt: &R,
+    service: &Service<C, B>,
+    number: u64,
+    cell: &mut LockedCell<C, B>,
+    hand: &mut Hand,
+    mine: &mut Share<B>,
+    manner: Manner,
+) -> Result<Cleaned, Fault>
+    requires there { IsThere cell.old }
+    requires inside { cell.old.ino < service.now.geometry.numbers.inodes }
+    requires part { 0 < mine.old.parts }
+    requires amount { mine.old.amount ≡ length (blocks_of hand.old) }
+    requires empty { IsEmptyHand hand.old }
+    // A cleaner judges behind its lock, and changes the cell once.
+    ensures run { (h0 : HandState) (r0 : Running)
+        → Holds service.now.geometry.numbers number h0 r0 cell.old.ino Unseen (hand_of hand.old)
+        (planning manner cell.old.ino)
+        → IsCleaned service.now.geometry.numbers number h0 r0 result (hand_of hand.new) }
+    ensures err { IfErr result (MayRefuseSnapshotOrCleaner (cleaner_of manner cell.old.ino)) }
+    ensures parts { mine.new.parts ≡ mine.old.parts }
+    ensures amount { mine.new.amount ≡ length (blocks_of hand.new) }
+{
     test_cell(&service.geometry, cell.part(), hand)?;
-    match manner {
-        Manner::Fast => unlink_pages(service, &mut *cell, hand, mine),
-        Manner::Thorough => {
-            let walk = wanted(service.alloc, cell.part())?;
-            move_entries(rt, service, number, &mut *cell, walk, hand, mine, asking)
+    let planned = plan_cleaning(service.alloc, cell.part(), hand, manner)?;
+    match planned {
+        Planned::Unlinks(walk) => Ok(cell.unlink(walk, hand, mine)),
+        Planned::Compacts(walk) => {
+            take_fresh(rt, service, number, walk.pages() as u64, hand, mine)?;
+            Ok(cell.compact(walk, hand, mine))
         }
-        Manner::Auto => {
-            let walk = wanted(service.alloc, cell.part())?;
-            if prefers_thorough(&walk, cell.part().len()) {
-                move_entries(rt, service, number, &mut *cell, walk, hand, mine, asking)
-            } else {
-                unlink_pages(service, &mut *cell, hand, mine)
-            }
-        }
+        Planned::Ends(cleaned) => Ok(cleaned),
     }
 }
 
-/// Whether a cell and a hand are as a cleaner needs them. `Stale` where the slot has no inode. `Mismatch` of `Lists` where
-/// one is for blocks of another size, of `Index` where the cell has an entry past its tail, of `Records` where a part is
-/// killed and not yet retired. Costs a pass over the marks.
+/// Whether a cell and a hand are as a cleaner needs them. `Mismatch` of `Lists` where one is for blocks of another size, of
+/// `Index` where the cell has an entry past its tail, of `Records` where a part is killed and not yet retired. Costs a pass
+/// over the marks.
 fn test_cell(geometry: &Geometry, cell: &InodeCell, hand: &Hand) -> Result<(), Fault>
     ensures ok { OnOk result (CanClean geometry.now.numbers.block cell.now.state hand.now) }
-    ensures err { IfErr result (λ why. (why ≡ Stale) ⊎ IsMisfit why) }
+    ensures err { IfErr result IsMisfit }
 {
-    if cell.tail() == 0 {
-        return Err(Fault::Stale);
-    }
     let block = geometry.numbers.block;
     if cell.block_bytes() != block || hand.pages.block_bytes() as u64 != block {
         return Err(Fault::Mismatch(MismatchPart::Lists));
@@ -96,55 +110,4 @@ fn test_cell(geometry: &Geometry, cell: &InodeCell, hand: &Hand) -> Result<(), F
         return Err(Fault::Mismatch(MismatchPart::Records));
     }
     Ok(())
-}
-
-/// Unlinks the pages that nothing needs, also where there is none.
-fn unlink_pages<C: Commits, B: Blocks>(
-    service: &Service<C, B>,
-    cell: &mut LockedCell<C, B>,
-    hand: &mut Hand,
-    mine: &mut Share<B>,
-) -> Result<Cleaned, Fault>
-    requires there { IsThere cell.old }
-    requires can { CanClean service.now.geometry.numbers.block (cell_of cell.old).state hand.old }
-    requires part { 0 < mine.old.parts }
-    requires amount { mine.old.amount ≡ length (blocks_of hand.old) }
-    ensures err { FailsOnly out_of_memory result }
-    ensures parts { mine.new.parts ≡ mine.old.parts }
-    ensures amount { mine.new.amount ≡ length (blocks_of hand.new) }
-{
-    let walk = unlinkable(service.alloc, cell.part())?;
-    hand.pages.reserve(walk.pages())?;
-    Ok(cell.unlink(walk, hand, mine))
-}
-
-/// Moves the entries that stay to fresh pages, which it takes first. Where all stay it takes none, and changes nothing.
-/// `NoSpace` comes only where each list was asked.
-fn move_entries<C: Commits, B: Blocks, R: Wait>(
-    rt: &R,
-    service: &Service<C, B>,
-    number: u64,
-    cell: &mut LockedCell<C, B>,
-    walk: Wanted,
-    hand: &mut Hand,
-    mine: &mut Share<B>,
-    asking: &mut Asking,
-) -> Result<Cleaned, Fault>
-    requires there { IsThere cell.old }
-    requires can { CanClean service.now.geometry.numbers.block (cell_of cell.old).state hand.old }
-    requires walk { walk ≡ wanted_of (cell_of cell.old).state }
-    requires part { 0 < mine.old.parts }
-    requires amount { mine.old.amount ≡ length (blocks_of hand.old) }
-    requires empty { IsEmptyHand hand.old }
-    ensures err { IfErr result (λ why. (why ≡ NoSpace) ⊎ IsMisfitOrWant why) }
-    ensures parts { mine.new.parts ≡ mine.old.parts }
-    ensures amount { mine.new.amount ≡ length (blocks_of hand.new) }
-    ensures short { asking.new.turn ≡ turned_in result asking.old.turn }
-{
-    if !walk.is_all() {
-        let pages = walk.pages() as u64;
-        hand.pages.reserve(pages)?;
-        take_blocks(rt, service, number, pages, &mut hand.pages, mine, asking)?;
-    }
-    Ok(cell.compact(walk, hand, mine))
 }

@@ -1,6 +1,6 @@
 //! The guards of the inodes that a call locks.
 
-ghost use Rattle.std.specs.Prelude.{◌≡◌, ◌+◌, ◌<◌, ◌-◌, ◌^◌, Err, IfOk, OnOk, length, vec_capacity, vec_len};
+ghost use Rattle.std.specs.Prelude.{◌≡◌, ◌+◌, ◌<◌, ◌≤◌, ◌-◌, ◌^◌, Err, IfErr, IfOk, OnOk, length, vec_capacity, vec_len};
 ghost use Rattle.std.specs.Sync.Mutex.{mutex_guard_value};
 ghost use Rattle.nv_alloc.specs.Hand.{blocks_of};
 ghost use Rattle.nv_base.specs.Refusals.{FailsEither, FailsOnly};
@@ -27,8 +27,8 @@ use nv_base::{Fault, Ino, MismatchPart};
 use nv_calls::{LockedSlots, Receipt, Source};
 use std::sync::{Mutex, MutexGuard, Wait};
 
-/// Locks the cell of an inode. `Stale` where there is no such slot, and `Mismatch` of `Lists` where another inode's place
-/// lies there, or an empty one.
+/// Locks the cell of an inode. `Stale` where the device has no such slot, and `Mismatch` of `Lists` where a slot has no lock,
+/// or where another inode's place lies there, or an empty one.
 pub(crate) fn hold<'a, C: Commits, B: Blocks, R: Wait>(
     rt: &R,
     service: &'a Service<C, B>,
@@ -36,9 +36,18 @@ pub(crate) fn hold<'a, C: Commits, B: Blocks, R: Wait>(
 ) -> Result<MutexGuard<'a, LockedCell<C, B>>, Fault>
     ensures ok { IfOk result (λ guard. (mutex_guard_value guard).ino ≡ ino) }
     ensures there { IfOk result (λ guard. IsThere (mutex_guard_value guard)) }
+    // The slot is one of the device's, and `Stale` comes only where it is none.
+    ensures slot { OnOk result (ino < service.now.geometry.numbers.inodes) }
+    ensures stale { IfErr result (λ why.
+        why ≡ fault.Stale → service.now.geometry.numbers.inodes ≤ ino) }
     ensures err { FailsEither fault.Stale (fault.Mismatch part.Lists) result }
 {
-    let lock = service.inode_lock(ino).ok_or(Fault::Stale)?;
+    if ino.number() >= service.geometry.numbers.inodes {
+        return Err(Fault::Stale);
+    }
+    let lock = service
+        .inode_lock(ino)
+        .ok_or(Fault::Mismatch(MismatchPart::Lists))?;
     hold_at(rt, lock, ino)
 }
 

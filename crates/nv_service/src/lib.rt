@@ -23,6 +23,7 @@ mod drain;
 mod ending;
 mod first_locks;
 mod fresh;
+mod fresh_pages;
 mod gather;
 mod giving_back;
 mod guards;

@@ -1,12 +1,22 @@
 //! A free list under its lock.
 
-ghost use Rattle.std.specs.Prelude.{◌≡◌, ◌+◌, ◌-◌, ◌<◌, ◌≤◌, ◌++◌, min, length, take, drop};
+ghost use Rattle.std.specs.Prelude.{◌≡◌, ◌+◌, ◌-◌, ◌<◌, ◌≤◌, ◌++◌, ℕ, min, length, take, drop};
+ghost use Rattle.std.specs.Option.{ForSome};
 ghost use Rattle.nv_alloc.specs.Giving.{after_giving, not_taken};
 ghost use Rattle.nv_alloc.specs.Hand.{blocks_of};
 ghost use Rattle.nv_alloc.specs.Queue.{after_home};
+ghost use Rattle.nv_base.specs.declared.geometry.GeometryNumbers.{GeometryNumbers};
+ghost use Rattle.nv_machine.specs.Hands.{AreGiven};
+ghost use Rattle.nv_machine.specs.World as machine;
+ghost use Rattle.nv_machine.specs.World.{Running};
+ghost use Rattle.nv_service.specs.Underway.{IsFirstHome};
+ghost use Rattle.nv_steps.specs.Hands.{hand_of};
+ghost use Rattle.nv_steps.specs.OnList.{HasNumber, HaveSameHomes, IsGive, home_left, on_list};
 
 use crate::names::Blocks;
 use nv_alloc::{BlockQueue, FreeList, Hand};
+use nv_base::Geometry;
+use nv_steps::{LeftInHand, left_in_hand};
 use std::marker::Model;
 use std::sync::ledger::Share;
 
@@ -57,12 +67,27 @@ impl<B: Blocks> LockedList<B> {
         taken
     }
 
-    /// Takes those blocks of a hand that are at home here, as [`Hand::give_blocks`] gives them. As much moves from `mine`,
-    /// which is the share of the hand, to the list's share.
-    pub(crate) fn give_blocks(&mut self, hand: &mut Hand, mine: &mut Share<B>)
+    /// Takes those blocks of a hand that are at home here, as [`Hand::give_blocks`] gives them, and says what is left in it. As
+    /// much moves from `mine`, which is the share of the hand, to the list's share.
+    pub(crate) fn give_blocks(
+        &mut self,
+        geometry: &Geometry,
+        hand: &mut Hand,
+        mine: &mut Share<B>,
+    ) -> LeftInHand
         requires part { 0 < mine.old.parts }
         // Blocks come home as by `Hand::give_blocks`, and their share with them.
         requires amount { mine.old.amount ≡ length (blocks_of hand.old) }
+        // It is one turn of the machine where all that is left is at home on later CPUs, wherever the other parts are.
+        ensures turn { (numbers : GeometryNumbers) (actor cpu : ℕ) (r : Running)
+            → HaveSameHomes numbers geometry.now.numbers → r.next ≡ machine.Give cpu
+            → AreGiven numbers (cpu + 1) (blocks_of hand.new)
+            → IsGive numbers actor (on_list r (hand_of hand.old) cpu self.old self.new) result
+            (hand_of hand.new) }
+        ensures home { IsFirstHome geometry.now.numbers (blocks_of hand.new) (home_left result) }
+        ensures later { (cpu : ℕ) → AreGiven geometry.now.numbers cpu (blocks_of hand.new)
+            → ForSome (home_left result) (λ home. cpu ≤ home) }
+        ensures number { HasNumber result hand.new.ino }
         ensures data { hand.new.data ≡ after_home self.old hand.old.data }
         ensures pages { hand.new.pages
             ≡ after_home (after_giving self.old hand.old.data.blocks) hand.old.pages }
@@ -78,6 +103,7 @@ impl<B: Blocks> LockedList<B> {
         hand.give_blocks(&mut self.list);
         let given = before - hand.len();
         mine.transfer(&mut self.blocks, given);
+        left_in_hand(hand, geometry)
     }
 
     /// Takes the list apart with all its blocks: for the owner of a whole device that is let go.

@@ -214,7 +214,8 @@ impl<C: Commits, B: Blocks> Session<C, B> {
             source,
         );
         let mine = &mut self.seat.blocks;
-        give_back(rt, service, &mut hand, mine, &mut self.seat.giving);
+        // What was refused stays in the hand, and refuses the session's next call.
+        let _ = give_back(rt, service, &mut hand, mine, &mut self.seat.giving);
         mem::replace(&mut self.hand, hand).dismantle();
         result
     }

@@ -1,81 +1,130 @@
 //! A snapshot is pinned, shown inode by inode, and unpinned.
 
-ghost use Rattle.std.specs.Prelude.{◌≡◌, ◌⊎◌, IfErr};
+ghost use Rattle.std.specs.Prelude.{◌≡◌, ◌<◌, ◌⊎◌, ℕ, Err, IfErr, OnOk, false};
 ghost use Rattle.nv_base.specs.Refusals.{FailsEither, FailsOnly};
 ghost use Rattle.nv_base.specs.declared.fault.Fault.TheVariants as fault;
 ghost use Rattle.nv_base.specs.declared.fault.MismatchPart.TheVariants as part;
+ghost use Rattle.nv_base.specs.declared.geometry.GeometryNumbers.{GeometryNumbers};
+ghost use Rattle.nv_reader.specs.Showing.{is_over, visited};
 ghost use Rattle.nv_service.specs.Refusing.{IsMisfitOrWant};
+ghost use Rattle.nv_service.specs.ShowRuns.{FindsCell, IsPinTurn, IsUnpinTurn, VisitAll};
+ghost use Rattle.nv_steps.specs.OnBook.{answer_of_show};
 
+use crate::cell::LockedCell;
 use crate::guards::hold_at;
 use crate::names::{Blocks, Commits};
 use crate::service::Service;
-use nv_base::{Epoch, Fault, Handle, MismatchPart, limits};
-use nv_entry::{NodeCopy, Tree};
-use nv_reader::{Walk, copy_on, root};
-use std::sync::Wait;
+use nv_base::{Epoch, Fault, Handle, MismatchPart};
+use nv_calls::Answer;
+use nv_cell::InodeCell;
+use nv_entry::Tree;
+use nv_reader::{Showing, show_on};
+use std::alloc::Global;
+use std::sync::{Mutex, Wait};
 
-/// Pins a snapshot. `NoSnapshot` where it doesn't live, and `Mismatch` of `Records` where it takes no more pins.
+/// Pins a snapshot: a show over the slots of the device begins. `NoSnapshot` where it doesn't live, and `Mismatch` of
+/// `Records` where it takes no more pins.
 pub(crate) fn pin<C: Commits, B: Blocks, R: Wait>(
     rt: &R,
     service: &Service<C, B>,
     snapshot: Epoch,
-) -> Result<(), Fault>
-    ensures { FailsEither fault.NoSnapshot (fault.Mismatch part.Records) result }
+) -> Result<Showing, Fault>
+    ensures turn { (result ≡ Err (fault.Mismatch part.Records))
+        ⊎ IsPinTurn service.now.geometry.numbers snapshot result }
+    ensures err { FailsEither fault.NoSnapshot (fault.Mismatch part.Records) result }
 {
+    let slots = service.geometry.numbers.inodes as usize;
     let mut book = service.book_lock().lock(rt);
     if !book.may_pin(snapshot) {
         return Err(Fault::Mismatch(MismatchPart::Records));
     }
-    book.pin(snapshot)
+    book.pin(service.alloc, snapshot, slots)
 }
 
-/// Takes the pin off a snapshot. `Mismatch` of `Records` where it has none.
+/// Takes the pin off a snapshot, and answers the nodes that were seen, or for what the show is refused. `Mismatch` of
+/// `Records` where it has no pin.
 pub(crate) fn unpin<C: Commits, B: Blocks, R: Wait>(
     rt: &R,
     service: &Service<C, B>,
     snapshot: Epoch,
-) -> Result<(), Fault>
-    ensures { FailsOnly (fault.Mismatch part.Records) result }
+    shown: Result<Tree, Fault>,
+) -> Result<Answer, Fault>
+    ensures turn { (result ≡ Err (fault.Mismatch part.Records)) ⊎ ((result ≡ answer_of_show shown)
+        × IsUnpinTurn service.now.geometry.numbers snapshot shown) }
 {
     let mut book = service.book_lock().lock(rt);
     if !book.is_pinned(snapshot) {
         return Err(Fault::Mismatch(MismatchPart::Records));
     }
-    book.unpin(snapshot);
-    Ok(())
+    book.unpin(snapshot, shown)
 }
 
-/// The tree at the end of an epoch, visited inode by inode, each under its own lock alone. `Mismatch` of `Names` where a
-/// name leads to no node, or to one that was met before, so that the walk ends; `OutOfMemory` where room was refused.
+/// The nodes that a show sees, visited inode by inode, each under its own lock alone. `Mismatch` of `Names` where a name leads
+/// to no node, or to one that was met before, so that the visits end; `OutOfMemory` where room was refused.
 pub(crate) fn show_tree<C: Commits, B: Blocks, R: Wait>(
     rt: &R,
     service: &Service<C, B>,
-    epoch: Epoch,
+    snapshot: Epoch,
+    first: Showing,
 ) -> Result<Tree, Fault>
-    ensures { IfErr result IsMisfitOrWant }
+    ensures visits { VisitAll service.now.geometry.numbers snapshot first result }
+    ensures err { IfErr result IsMisfitOrWant }
 {
-    let alloc = service.alloc;
-    let slots = service.cells.len();
-    let mut met = vec![in alloc; false; slots]?;
-    let mut walk = Walk::new(alloc, root(), slots)?;
-    let mut nodes = Vec::new(alloc);
-    for _node in 0..limits::INODES + 1 {
-        let Some(handle) = walk.wanted() else {
-            break;
-        };
-        note_once(&mut met, &handle)?;
-        let node = node_of(rt, service, &handle, epoch)?;
-        if let Some(given) = walk.hand_in(Some(node))? {
-            nodes.push(given)?;
+    let mut met = Vec::new(service.alloc);
+    let mut showing = first;
+    for _visit in rt.forever() {
+        if showing.is_over() {
+            return Ok(showing.into_seen());
         }
+        showing = visit(rt, service, &mut met, snapshot, showing)?;
     }
-    Ok(Tree::from_vec(nodes))
+    unreachable!()
 }
 
-/// Marks the slot of a handle as met. `Mismatch` of `Names` where there is no such slot, or it was met before.
-fn note_once(met: &mut [bool], handle: &Handle) -> Result<(), Fault>
-    ensures { FailsOnly (fault.Mismatch part.Names) result }
+/// Makes the next visit of a show, under the lock of its slot alone.
+fn visit<C: Commits, B: Blocks, R: Wait>(
+    rt: &R,
+    service: &Service<C, B>,
+    met: &mut Vec<bool>,
+    snapshot: Epoch,
+    showing: Showing,
+) -> Result<Showing, Fault>
+    requires more { is_over showing ≡ false }
+    ensures cell { FindsCell service.now.geometry.numbers snapshot showing result }
+    ensures err { IfErr result IsMisfitOrWant }
 {
+    let handle = showing.visited();
+    let lock = slot_lock(service, &handle)?;
+    let place = hold_at(rt, lock, handle.ino)?;
+    let cell = place.part();
+    note_once(met, service.cells.len(), &handle)?;
+    see(service.alloc, cell, snapshot, showing)
+}
+
+/// The lock of the slot of a handle. `Mismatch` of `Names` where the device has no such slot.
+fn slot_lock<'a, C: Commits, B: Blocks>(
+    service: &'a Service<C, B>,
+    handle: &Handle,
+) -> Result<&'a Mutex<LockedCell<C, B>>, Fault>
+    ensures slot { OnOk result (handle.now.ino < service.now.geometry.numbers.inodes) }
+    ensures err { FailsOnly (fault.Mismatch part.Names) result }
+{
+    if handle.ino.number() >= service.geometry.numbers.inodes {
+        return Err(Fault::Mismatch(MismatchPart::Names));
+    }
+    service
+        .inode_lock(handle.ino)
+        .ok_or(Fault::Mismatch(MismatchPart::Names))
+}
+
+/// Marks the slot of a handle, one of so many, as met. `Mismatch` of `Names` where there is no such slot, or it was met before;
+/// `OutOfMemory` where room for the marks was refused.
+fn note_once(met: &mut Vec<bool>, slots: usize, handle: &Handle) -> Result<(), Fault>
+    ensures { IfErr result IsMisfitOrWant }
+{
+    if met.is_empty() {
+        met.resize(slots, false)?;
+    }
     match met.get_mut(handle.ino.number() as usize) {
         Some(seen) if !*seen => {
             *seen = true;
@@ -85,19 +134,19 @@ fn note_once(met: &mut [bool], handle: &Handle) -> Result<(), Fault>
     }
 }
 
-/// The node under a handle at the end of an epoch. `Mismatch` of `Names` where there is none.
-fn node_of<C: Commits, B: Blocks, R: Wait>(
-    rt: &R,
-    service: &Service<C, B>,
-    handle: &Handle,
-    epoch: Epoch,
-) -> Result<NodeCopy, Fault>
-    ensures { IfErr result IsMisfitOrWant }
+/// Sees the node of a cell in the next visit of a show. `Mismatch` of `Names` where the handle leads to no node.
+fn see(alloc: Global, cell: &InodeCell, snapshot: Epoch, showing: Showing) -> Result<Showing, Fault>
+    requires more { is_over showing ≡ false }
+    ensures cell { (numbers : GeometryNumbers) → (visited showing.visits).ino < numbers.inodes
+        → FindsCell numbers snapshot showing result }
+    ensures err { IfErr result IsMisfitOrWant }
 {
-    let lock = service
-        .inode_lock(handle.ino)
-        .ok_or(Fault::Mismatch(MismatchPart::Names))?;
-    let cell = hold_at(rt, lock, handle.ino)?;
-    let node = copy_on(service.alloc, Some(cell.part()), handle, epoch)?;
-    node.ok_or(Fault::Mismatch(MismatchPart::Names))
+    let handle = showing.visited();
+    if handle.generation != cell.generation() {
+        return Err(Fault::Mismatch(MismatchPart::Names));
+    }
+    let Some(node) = show_on(alloc, cell, snapshot)? else {
+        return Err(Fault::Mismatch(MismatchPart::Names));
+    };
+    showing.see(alloc, Some(node))
 }

@@ -3,7 +3,9 @@
 ghost use Rattle.std.specs.Prelude.{◌≡◌, ℕ, Err, IfErr, IfOk};
 ghost use Rattle.nv_base.specs.Refusals.{KeepsOnErr};
 ghost use Rattle.nv_calls.specs.declared.call.Call.{Call};
+ghost use Rattle.nv_service.specs.RunCalls.{told_as};
 ghost use Rattle.nv_service.specs.Sessions.{IsFoundAt, IsGivenBack, IsViewedBy};
+ghost use Rattle.nv_steps.specs.Reading.{answer_of_view};
 
 use crate::cell::LockedCell;
 use crate::names::{Blocks, Commits};
@@ -30,6 +32,8 @@ impl<C: Commits, B: Blocks> Session<C, B> {
         ensures same { KeepsOnErr result self.old self.new }
         ensures held { IsGivenBack self.new.held }
         ensures refused { IfErr result (λ why. found ≡ Err why) }
+        // It is told what was found.
+        ensures told { told_as result ≡ answer_of_view found }
     {
         self.keeps_only_what_was_refused();
         let view = found?;

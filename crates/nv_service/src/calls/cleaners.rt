@@ -2,11 +2,14 @@
 
 ghost use Rattle.std.specs.Prelude.{◌≡◌, ◌≤◌, ℕ, Bool, IfErr, IfOk, max, min};
 ghost use Rattle.nv_base.specs.declared.limits.TheConstants.{DRAIN};
+ghost use Rattle.nv_machine.specs.World as machine;
 ghost use Rattle.nv_service.specs.Ending.{cleaner_of};
 ghost use Rattle.nv_service.specs.Refusing.{MayRefuseSnapshotOrCleaner};
+ghost use Rattle.nv_service.specs.RunCalls.{cleaning, told_as, draining};
+ghost use Rattle.nv_service.specs.SessionRuns.{IsSessionRun};
 ghost use Rattle.nv_service.specs.Sessions.{IsGivenBack, with_held};
 
-use crate::cleaners::{Manner, clean_log};
+use crate::cleaners::clean_log;
 use crate::drain::drain_deferred;
 use crate::ending::{empty_hand, give_back};
 use crate::names::{Blocks, Commits};
@@ -15,7 +18,7 @@ use crate::service::Service;
 use crate::session::Session;
 use nv_base::{Fault, Ino, limits};
 use nv_calls::{Answer, SnapshotOrCleanerCall};
-use nv_clean::Cleaned;
+use nv_steps::Manner;
 use std::sync::Wait;
 
 impl<C: Commits, B: Blocks> Session<C, B> {
@@ -27,6 +30,12 @@ impl<C: Commits, B: Blocks> Session<C, B> {
         service: &Service<C, B>,
         ino: Ino,
     ) -> Result<Seen, Fault>
+        // A cleaner is a run of the machine's turns, from its start to its answer or refusal, except where a part did not
+        // fit.
+        ensures run { IsSessionRun service.now.geometry.numbers self.old.number
+            machine.empty_hand
+            (cleaning service.now.geometry.numbers (SnapshotOrCleanerCall.Fast ino))
+            (told_as result) machine.empty_hand }
         // Cleaners are answered by their kind, and leave what the session has seen.
         ensures answer { IfOk result (λ seen. (thorough : Bool) × (entries pages : ℕ)
             × (seen ≡ Seen.Other (Answer.Cleaned thorough entries pages))) }
@@ -47,6 +56,10 @@ impl<C: Commits, B: Blocks> Session<C, B> {
         service: &Service<C, B>,
         ino: Ino,
     ) -> Result<Seen, Fault>
+        ensures run { IsSessionRun service.now.geometry.numbers self.old.number
+            machine.empty_hand
+            (cleaning service.now.geometry.numbers (SnapshotOrCleanerCall.Thorough ino))
+            (told_as result) machine.empty_hand }
         ensures answer { IfOk result (λ seen. (thorough : Bool) × (entries pages : ℕ)
             × (seen ≡ Seen.Other (Answer.Cleaned thorough entries pages))) }
         ensures err { IfErr result
@@ -65,6 +78,10 @@ impl<C: Commits, B: Blocks> Session<C, B> {
         service: &Service<C, B>,
         ino: Ino,
     ) -> Result<Seen, Fault>
+        ensures run { IsSessionRun service.now.geometry.numbers self.old.number
+            machine.empty_hand
+            (cleaning service.now.geometry.numbers (SnapshotOrCleanerCall.Auto ino))
+            (told_as result) machine.empty_hand }
         ensures answer { IfOk result (λ seen. (thorough : Bool) × (entries pages : ℕ)
             × (seen ≡ Seen.Other (Answer.Cleaned thorough entries pages))) }
         ensures err { IfErr result (MayRefuseSnapshotOrCleaner (SnapshotOrCleanerCall.Auto ino)) }
@@ -74,6 +91,7 @@ impl<C: Commits, B: Blocks> Session<C, B> {
         self.clean(rt, service, Manner::Auto, ino)
     }
 
+    /// Cleans the log of an inode, and gives back what it has lost. A number without a slot is `Stale` at once.
     fn clean<R: Wait>(
         &mut self,
         rt: &R,
@@ -81,46 +99,44 @@ impl<C: Commits, B: Blocks> Session<C, B> {
         manner: Manner,
         ino: Ino,
     ) -> Result<Seen, Fault>
+        ensures run { IsSessionRun service.now.geometry.numbers self.old.number
+            machine.empty_hand (cleaning service.now.geometry.numbers (cleaner_of manner ino))
+            (told_as result) machine.empty_hand }
         ensures answer { IfOk result (λ seen. (thorough : Bool) × (entries pages : ℕ)
             × (seen ≡ Seen.Other (Answer.Cleaned thorough entries pages))) }
         ensures err { IfErr result (MayRefuseSnapshotOrCleaner (cleaner_of manner ino)) }
         ensures same { self.new ≡ with_held self.new.held self.old }
         ensures held { IsGivenBack self.new.held }
     {
+        let number = self.seat.number;
         let mine = &mut self.seat.blocks;
-        empty_hand(rt, service, &mut self.hand, mine, &mut self.seat.giving)?;
-        let cleaned = clean_log(
-            rt,
-            service,
-            self.seat.number,
-            &mut self.hand,
-            mine,
-            &mut self.seat.asking,
-            manner,
-            ino,
-        );
-        give_back(rt, service, &mut self.hand, mine, &mut self.seat.giving);
-        let Cleaned {
-            thorough,
-            entries,
-            pages,
-        } = cleaned?;
+        let giving = &mut self.seat.giving;
+        empty_hand(rt, service, &mut self.hand, mine, giving)?;
+        if ino.number() >= service.geometry.numbers.inodes {
+            return Err(Fault::Stale);
+        }
+        let cleaned = clean_log(rt, service, number, &mut self.hand, mine, manner, ino);
+        give_back(rt, service, &mut self.hand, mine, giving)?;
+        let cleaned = cleaned?;
         Ok(Seen::Other(Answer::Cleaned {
-            thorough,
-            entries,
-            pages,
+            thorough: cleaned.thorough,
+            entries: cleaned.entries,
+            pages: cleaned.pages,
         }))
     }
 
     /// Releases the first deferred records, at most so many, and answers how many: a number outside 1 to
     /// [`limits::DRAIN`] counts as the nearest of these. `OutOfMemory` where room for a block was refused, before the first
-    /// record.
+    /// record. A part that does not fit ends it by `Mismatch`, also behind records that it has released.
     pub fn drain<R: Wait>(
         &mut self,
         rt: &R,
         service: &Service<C, B>,
         number: u64,
     ) -> Result<Seen, Fault>
+        // A drain is a run of the machine's turns, except where a part does not fit.
+        ensures run { IsSessionRun service.now.geometry.numbers self.old.number machine.empty_hand
+            (draining number) (told_as result) machine.empty_hand }
         // It releases no more than it may.
         ensures answer { IfOk result (λ seen. (n : ℕ) × (n ≤ max 1 (min number DRAIN))
             × (seen ≡ Seen.Other (Answer.Count n))) }
@@ -131,10 +147,9 @@ impl<C: Commits, B: Blocks> Session<C, B> {
     {
         let mine = &mut self.seat.blocks;
         empty_hand(rt, service, &mut self.hand, mine, &mut self.seat.giving)?;
-        self.hand.data.reserve(1)?;
         let most = limits::most_drained(number);
         let giving = &mut self.seat.giving;
-        let released = drain_deferred(rt, service, &mut self.hand, mine, giving, most)?;
-        Ok(Seen::Other(Answer::Count(released)))
+        let answer = drain_deferred(rt, service, &mut self.hand, mine, giving, most)?;
+        Ok(Seen::Other(answer))
     }
 }

@@ -7,6 +7,7 @@ ghost use Rattle.nv_service.specs.ByValue.{once_snapped};
 ghost use Rattle.nv_service.specs.Refusing.{MayRefuseSnapshotOrCleaner};
 ghost use Rattle.nv_service.specs.RunCalls.{dropping, making, told_as};
 ghost use Rattle.nv_service.specs.Sessions.{IsGivenBack};
+ghost use Rattle.nv_service.specs.ShowRuns.{IsShowRun};
 ghost use Rattle.nv_entry.specs.declared.tree.TreeNode.{TreeNode};
 ghost use Rattle.nv_steps.specs.Runs.{IsRun};
 
@@ -65,13 +66,16 @@ impl<C: Commits, B: Blocks> Session<C, B> {
 
     /// Asks for the tree as it was when a snapshot was made, which is pinned as long as the call reads. `NoSnapshot`;
     /// `OutOfMemory` where room was refused.
-    /// Only tested: the tree is that of the making, while others write.
+    /// Only tested: each cell that a show finds is whole, so that the tree is that of the making, while others write.
     pub fn show<R: Wait>(
         &mut self,
         rt: &R,
         service: &Service<C, B>,
         snapshot: Epoch,
     ) -> Result<Seen, Fault>
+        // A show pins its snapshot, visits one cell after another, and takes the pin off, each in one turn of the machine.
+        ensures run { IsShowRun service.now.geometry.numbers self.old.number snapshot
+            (told_as result) }
         ensures answer { IfOk result (λ seen. (tree : List TreeNode)
             × (seen ≡ Seen.Other (Answer.Tree tree))) }
         ensures err { IfErr result
@@ -80,11 +84,9 @@ impl<C: Commits, B: Blocks> Session<C, B> {
         ensures held { IsGivenBack self.new.held }
     {
         self.keeps_only_what_was_refused();
-        pin(rt, service, snapshot)?;
-        let shown = show_tree(rt, service, snapshot);
-        let unpinned = unpin(rt, service, snapshot);
-        let tree = shown?;
-        unpinned?;
-        Ok(Seen::Other(Answer::Tree(tree)))
+        let first = pin(rt, service, snapshot)?;
+        let shown = show_tree(rt, service, snapshot, first);
+        let answer = unpin(rt, service, snapshot, shown)?;
+        Ok(Seen::Other(answer))
     }
 }

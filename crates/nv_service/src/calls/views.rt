@@ -2,7 +2,10 @@
 
 ghost use Rattle.std.specs.Prelude.{IfErr, IfOk};
 ghost use Rattle.nv_base.specs.Refusals.{KeepsOnErr};
+ghost use Rattle.nv_machine.specs.World.{empty_hand};
 ghost use Rattle.nv_service.specs.Refusing.{MayRefuseView};
+ghost use Rattle.nv_service.specs.RunCalls.{IsReadRun, told_as, viewing};
+ghost use Rattle.nv_service.specs.SessionRuns.{IsSessionRun};
 ghost use Rattle.nv_service.specs.Sessions.{IsGivenBack, IsViewedBy};
 
 use crate::guards::hold;
@@ -25,6 +28,9 @@ impl<C: Commits, B: Blocks> Session<C, B> {
         offset: u64,
         count: u64,
     ) -> Result<Seen, Fault>
+        // A read told the bytes of a cell's own blocks, in one turn of the machine, or is refused by such a turn.
+        ensures run { IsReadRun service.now.geometry.numbers self.old.number file.ino
+            (Call.Read file offset count) (told_as result) }
         // The view is of that call, and of no older version than was seen.
         // Its version is seen from then on; of all other inodes what was seen stays.
         ensures ok { IfOk result (IsViewedBy C.opened self.old self.new file.ino
@@ -56,6 +62,9 @@ impl<C: Commits, B: Blocks> Session<C, B> {
         service: &Service<C, B>,
         handle: Handle,
     ) -> Result<Seen, Fault>
+        // Any other view is a run of one turn, to its answer or refusal, on a cell that was found.
+        ensures run { IsSessionRun service.now.geometry.numbers self.old.number empty_hand
+            (viewing (Call.Stat handle)) (told_as result) empty_hand }
         ensures ok { IfOk result (IsViewedBy C.opened self.old self.new handle.ino
             (Call.Stat handle)) }
         ensures same { KeepsOnErr result self.old self.new }
@@ -76,6 +85,8 @@ impl<C: Commits, B: Blocks> Session<C, B> {
         service: &Service<C, B>,
         dir: Handle,
     ) -> Result<Seen, Fault>
+        ensures run { IsSessionRun service.now.geometry.numbers self.old.number empty_hand
+            (viewing (Call.List dir)) (told_as result) empty_hand }
         ensures ok { IfOk result (IsViewedBy C.opened self.old self.new dir.ino (Call.List dir)) }
         ensures same { KeepsOnErr result self.old self.new }
         ensures held { IsGivenBack self.new.held }
@@ -95,6 +106,8 @@ impl<C: Commits, B: Blocks> Session<C, B> {
         dir: Handle,
         name: Bytes,
     ) -> Result<Seen, Fault>
+        ensures run { IsSessionRun service.now.geometry.numbers self.old.number empty_hand
+            (viewing (Call.Lookup dir name)) (told_as result) empty_hand }
         ensures ok { IfOk result (IsViewedBy C.opened self.old self.new dir.ino
             (Call.Lookup dir name)) }
         ensures same { KeepsOnErr result self.old self.new }

@@ -1,73 +1,43 @@
-use Rattle.std.proofs.Common.{arith, inl, refl}
-use Rattle.nv_base.specs.Memory.{out_of_memory}
-use Rattle.nv_calls.specs.declared.snapshot_or_cleaner_call.SnapshotOrCleanerCall.TheVariants as snapshot_or_cleaner
-use Rattle.nv_service.specs.Refusing.{MayRefuseSnapshotOrCleaner, snapshot_or_cleaner_faults}
-use Rattle.nv_service.proofs.OtherRefusals.{exits, moving_in, one_of, only_in}
-use Rattle.nv_service.proofs.Turns.{held_keeps, memory_keeps, memory_only, stale_keeps, turned_out}
+use Rattle.std.proofs.Common.{rules, ◌≡◌, ℕ, inr, subst, sym}
+use Rattle.std.specs.Prelude.{IfErr}
+use Rattle.nv_base.specs.declared.fault.MismatchPart.TheVariants as part
+use Rattle.nv_machine.specs.World.{empty_hand}
+use Rattle.nv_service.specs.Ending.{cleaner_of}
+use Rattle.nv_service.specs.Holding.{Holds}
+use Rattle.nv_service.specs.Refusing.{MayRefuseSnapshotOrCleaner}
+use Rattle.nv_service.specs.RunCalls.{cleaning, planning}
+use Rattle.nv_steps.specs.Hands.{hand_of}
+use Rattle.nv_steps.specs.Runs.{Unseen}
+use Rattle.nv_service.proofs.CleanerRuns.{misfit_exit}
+use Rattle.nv_service.proofs.CleaningTurns.{holds_slot, nothing_in}
+use Rattle.nv_service.proofs.OtherRefusals.{exits}
 use Rattle.nv_service.proofs.cleaners.clean_log.Goals as goal
 
-pub returns-in-Fast-clause-err : goal.returns-in-Fast-clause-err
-returns-in-Fast-clause-err g c =
-    rw c.in-Fast.is (only_in (snapshot_or_cleaner_faults (snapshot_or_cleaner.Fast c.args.ino)) c.unlink_pages.result out_of_memory (1, omega arith, refl)
-    c.unlink_pages.ensures.err)
+-- the place is another's, or empty
+pub returns-in_err-cell-clause-run : goal.returns-in_err-cell-clause-run
+returns-in_err-cell-clause-run g c =
+    let numbers = c.args.service.now.geometry.numbers in
+    misfit_exit numbers c.args.number empty_hand (cleaning numbers (cleaner_of c.args.manner c.args.ino)) (hand_of c.args.hand.now)
+    c.from_residual.result _ c.from_residual.ensures.1 (part.Lists, c.in_err-cell.ensures.err)
 
-pub returns-in_err-walk-in-Thorough-clause-err : goal.returns-in_err-walk-in-Thorough-clause-err
-returns-in_err-walk-in-Thorough-clause-err g c =
-    let call = snapshot_or_cleaner.Thorough c.args.ino in
-    let exit = c.from_residual-in_err-walk-in-Thorough in
-    rw c.in-Thorough.is (exits (MayRefuseSnapshotOrCleaner call) exit.result _ exit.ensures.1
-    (one_of (snapshot_or_cleaner_faults call) _ out_of_memory out_of_memory (2, omega arith, refl) (2, omega arith, refl)
-    (inl c.in_err-walk-in-Thorough.ensures.err)))
+pub returns-in_err-cell-clause-err : goal.returns-in_err-cell-clause-err
+returns-in_err-cell-clause-err g c =
+    exits (MayRefuseSnapshotOrCleaner (cleaner_of c.args.manner c.args.ino)) c.from_residual.result _ c.from_residual.ensures.1
+    (inr (part.Lists, c.in_err-cell.ensures.err))
 
-pub returns-in-Thorough-clause-err : goal.returns-in-Thorough-clause-err
-returns-in-Thorough-clause-err g c =
-    rw c.in-Thorough.is (moving_in (snapshot_or_cleaner_faults (snapshot_or_cleaner.Thorough c.args.ino)) c.move_entries.result (1, omega arith, refl)
-    (2, omega arith, refl) c.move_entries.ensures.err)
-
-pub returns-in_err-walk-in-Auto-clause-err : goal.returns-in_err-walk-in-Auto-clause-err
-returns-in_err-walk-in-Auto-clause-err g c =
-    let call = snapshot_or_cleaner.Auto c.args.ino in
-    let exit = c.from_residual-in_err-walk-in-Auto in
-    rw c.in-Auto.is (exits (MayRefuseSnapshotOrCleaner call) exit.result _ exit.ensures.1
-    (one_of (snapshot_or_cleaner_faults call) _ out_of_memory out_of_memory (2, omega arith, refl) (2, omega arith, refl)
-    (inl c.in_err-walk-in-Auto.ensures.err)))
-
-pub returns-then-prefers_thorough-clause-err : goal.returns-then-prefers_thorough-clause-err
-returns-then-prefers_thorough-clause-err g c =
-    rw c.in-Auto.is (moving_in (snapshot_or_cleaner_faults (snapshot_or_cleaner.Auto c.args.ino)) c.move_entries-then-prefers_thorough.result
-    (1, omega arith, refl) (2, omega arith, refl) c.move_entries-then-prefers_thorough.ensures.err)
+-- behind its lock
+pub returns-clause-run : goal.returns-clause-run
+returns-clause-run g c =
+    let numbers = c.args.service.now.geometry.numbers in
+    let number = c.args.number in
+    let m = c.args.manner in
+    let start = cleaning numbers (cleaner_of m c.args.ino) in
+    let own : c.deref_mut.result.now.ino ≡ c.args.ino = search rules in
+    c.clean_held.ensures.run empty_hand start
+    (subst (λ (ino : ℕ). Holds numbers number empty_hand start ino Unseen (hand_of c.args.hand.now) (planning m ino)) (sym own)
+    (holds_slot numbers number m c.args.ino (hand_of c.args.hand.now) c.requires.inside (nothing_in c.args.hand.now c.requires.empty)))
 
 pub returns-clause-err : goal.returns-clause-err
 returns-clause-err g c =
-    rw c.in-Auto.is (only_in (snapshot_or_cleaner_faults (snapshot_or_cleaner.Auto c.args.ino)) c.unlink_pages-else-prefers_thorough.result out_of_memory
-    (2, omega arith, refl) c.unlink_pages-else-prefers_thorough.ensures.err)
-
-pub returns-in_err-cell-clause-short : goal.returns-in_err-cell-clause-short
-returns-in_err-cell-clause-short g c =
-    let old = c.args.asking.now.turn in
-    turned_out c.from_residual.result _ old old c.from_residual.ensures.1 (held_keeps _ c.in_err-cell.ensures.err old)
-
-pub returns-in_err-test_cell-clause-short : goal.returns-in_err-test_cell-clause-short
-returns-in_err-test_cell-clause-short g c =
-    let old = c.args.asking.now.turn in
-    let exit = c.from_residual-in_err-test_cell in
-    turned_out exit.result _ old old exit.ensures.1 (stale_keeps _ c.in_err-test_cell.ensures.err old)
-
-pub returns-in-Fast-clause-short : goal.returns-in-Fast-clause-short
-returns-in-Fast-clause-short g c = memory_only c.unlink_pages.result c.args.asking.now.turn c.unlink_pages.ensures.err
-
-pub returns-in_err-walk-in-Thorough-clause-short : goal.returns-in_err-walk-in-Thorough-clause-short
-returns-in_err-walk-in-Thorough-clause-short g c =
-    let old = c.args.asking.now.turn in
-    let exit = c.from_residual-in_err-walk-in-Thorough in
-    turned_out exit.result _ old old exit.ensures.1 (memory_keeps _ c.in_err-walk-in-Thorough.ensures.err old)
-
-pub returns-in_err-walk-in-Auto-clause-short : goal.returns-in_err-walk-in-Auto-clause-short
-returns-in_err-walk-in-Auto-clause-short g c =
-    let old = c.args.asking.now.turn in
-    let exit = c.from_residual-in_err-walk-in-Auto in
-    turned_out exit.result _ old old exit.ensures.1 (memory_keeps _ c.in_err-walk-in-Auto.ensures.err old)
-
-pub returns-clause-short : goal.returns-clause-short
-returns-clause-short g c =
-    memory_only c.unlink_pages-else-prefers_thorough.result c.args.asking.now.turn c.unlink_pages-else-prefers_thorough.ensures.err
+    let own : c.deref_mut.result.now.ino ≡ c.args.ino = search rules in
+    subst (λ (ino : ℕ). IfErr c.clean_held.result (MayRefuseSnapshotOrCleaner (cleaner_of c.args.manner ino))) own c.clean_held.ensures.err

@@ -1,10 +1,13 @@
-use Rattle.std.proofs.Common.{subst, sym}
-use Rattle.nv_service.proofs.Snapping.{IsCounted, unpinned_one}
+use Rattle.nv_service.proofs.BookLeft.{unpin_left, unpin_told}
+use Rattle.nv_service.proofs.Snapping.{unpinned_book}
 use Rattle.nv_service.proofs.book.LockedBook.unpin.Goals as goal
 
 pub invariant_of-self : goal.invariant_of-self
 invariant_of-self g c =
-    let snapped = c.self.inside.snap_book.total in
-    let counted = c.self.invariant in
-    subst (IsCounted g.C.Commits.commit g.C.Commits.living g.C.Commits.epoch c.self.inside.commits.total snapped) (sym c.unpin.ensures)
-    (counted.0, unpinned_one g.C.Commits.living g.C.Commits.epoch snapped c.self.inside.book.state.snaps c.args.s counted.1)
+    unpinned_book g.C.Commits.commit g.C.Commits.living g.C.Commits.epoch c.self.inside.commits.total c.self.inside.snap_book.total
+    c.self.inside.book c.unpin.new.book c.args.s c.self.invariant
+    (unpin_left c.self.inside.book.state c.unpin.new.book.state c.args.s c.args.shown c.unpin.result c.unpin.ensures.turn)
+
+pub returns-clause-told : goal.returns-clause-told
+returns-clause-told g c =
+    unpin_told c.self.inside.book.state c.unpin.new.book.state c.args.s c.args.shown c.unpin.result c.unpin.ensures.turn

@@ -4,7 +4,8 @@ use Rattle.nv_calls.specs.declared.call.Call.TheVariants as call
 use Rattle.nv_service.specs.Sessions.{IsFoundAt}
 use Rattle.nv_service.specs.Refusing.{view_faults}
 use Rattle.nv_service.proofs.Found.{found_at}
-use Rattle.nv_service.proofs.OtherRefusals.{grown_view, list_within}
+use Rattle.nv_service.proofs.OtherRefusals.{exit_is, grown_view, list_within}
+use Rattle.nv_service.proofs.ViewRuns.{held_grown, not_held}
 use Rattle.nv_service.proofs.session.Session.list.Goals as goal
 
 pub returns-clause-ok : goal.returns-clause-ok
@@ -19,3 +20,13 @@ pub returns-clause-err : goal.returns-clause-err
 returns-clause-err g c =
     grown_view (view_faults (call.List c.args.dir)) c.see.result c.list_on-found.result _
     (list_within (λ n. []) c.args.dir.ino c.part.result.now c.args.dir) (2, omega arith, refl) c.see.ensures.refused (c.list_on-found.ensures.err (λ n. []))
+
+pub returns-clause-run : goal.returns-clause-run
+returns-clause-run g c =
+    held_grown c.args.service.now.geometry.numbers c.args.self.now.number c.args.dir.ino (call.List c.args.dir) refl refl c.part.result.now
+    c.in_ok-cell.ensures.slot c.see.result c.list_on-found.result c.see.ensures.told c.list_on-found.ensures.view c.list_on-found.ensures.err refl
+
+pub returns-in_err-cell-clause-run : goal.returns-in_err-cell-clause-run
+returns-in_err-cell-clause-run g c =
+    not_held c.args.service.now.geometry.numbers c.args.self.now.number c.args.dir.ino (call.List c.args.dir) refl refl c.from_residual.result _
+    (exit_is c.from_residual.result _ c.from_residual.ensures.1) c.in_err-cell.ensures.err c.in_err-cell.ensures.stale

@@ -1,10 +1,11 @@
-use Rattle.std.proofs.Common.{rules, ◌≡◌, ℕ, [], subst}
+use Rattle.std.proofs.Common.{rules, ◌≡◌, ℕ, [], subst, refl}
 use Rattle.std.specs.Prelude.{IfOk}
 use Rattle.nv_calls.specs.declared.call.Call.TheVariants as call
 use Rattle.nv_service.specs.Sessions.{IsFoundAt}
 use Rattle.nv_service.specs.Refusing.{view_faults}
 use Rattle.nv_service.proofs.Found.{found_at}
-use Rattle.nv_service.proofs.OtherRefusals.{plain_view, lookup_within}
+use Rattle.nv_service.proofs.OtherRefusals.{exit_is, plain_view, lookup_within}
+use Rattle.nv_service.proofs.ViewRuns.{held_plain, not_held}
 use Rattle.nv_service.proofs.session.Session.lookup.Goals as goal
 
 pub returns-clause-ok : goal.returns-clause-ok
@@ -19,3 +20,13 @@ pub returns-clause-err : goal.returns-clause-err
 returns-clause-err g c =
     plain_view (view_faults (call.Lookup c.args.dir c.args.name)) c.see.result c.lookup_on-found.result _ _
     (lookup_within (λ n. []) c.args.dir.ino c.part.result.now c.args.dir c.args.name) c.see.ensures.refused (c.lookup_on-found.ensures (λ n. []))
+
+pub returns-clause-run : goal.returns-clause-run
+returns-clause-run g c =
+    held_plain c.args.service.now.geometry.numbers c.args.self.now.number c.args.dir.ino (call.Lookup c.args.dir c.args.name) refl refl c.part.result.now
+    c.in_ok-cell.ensures.slot c.see.result c.lookup_on-found.result c.see.ensures.told c.lookup_on-found.ensures
+
+pub returns-in_err-cell-clause-run : goal.returns-in_err-cell-clause-run
+returns-in_err-cell-clause-run g c =
+    not_held c.args.service.now.geometry.numbers c.args.self.now.number c.args.dir.ino (call.Lookup c.args.dir c.args.name) refl refl c.from_residual.result _
+    (exit_is c.from_residual.result _ c.from_residual.ensures.1) c.in_err-cell.ensures.err c.in_err-cell.ensures.stale

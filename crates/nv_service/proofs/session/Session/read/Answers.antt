@@ -4,7 +4,8 @@ use Rattle.nv_calls.specs.declared.call.Call.TheVariants as call
 use Rattle.nv_service.specs.Sessions.{IsFoundAt}
 use Rattle.nv_service.specs.Refusing.{view_faults}
 use Rattle.nv_service.proofs.Found.{found_at}
-use Rattle.nv_service.proofs.OtherRefusals.{grown_view, read_within}
+use Rattle.nv_service.proofs.OtherRefusals.{exit_is, grown_view, read_within}
+use Rattle.nv_service.proofs.ViewRuns.{held_read, not_read}
 use Rattle.nv_service.proofs.session.Session.read.Goals as goal
 
 pub returns-clause-ok : goal.returns-clause-ok
@@ -19,3 +20,13 @@ pub returns-clause-err : goal.returns-clause-err
 returns-clause-err g c =
     grown_view (view_faults (call.Read c.args.file c.args.offset c.args.count)) c.see.result c.read_on-found.result _
     (read_within (λ n. []) c.args.file.ino c.part.result.now c.args.file c.args.offset c.args.count) (2, omega arith, refl) c.see.ensures.refused (c.read_on-found.ensures.err (λ n. []))
+
+pub returns-clause-run : goal.returns-clause-run
+returns-clause-run g c =
+    held_read c.args.service.now.geometry.numbers c.args.self.now.number c.args.file.ino (call.Read c.args.file c.args.offset c.args.count) refl refl c.part.result.now
+    c.in_ok-cell.ensures.slot c.see.result c.read_on-found.result c.see.ensures.told c.read_on-found.ensures.own c.read_on-found.ensures.view c.read_on-found.ensures.err refl
+
+pub returns-in_err-cell-clause-run : goal.returns-in_err-cell-clause-run
+returns-in_err-cell-clause-run g c =
+    not_read c.args.service.now.geometry.numbers c.args.self.now.number c.args.file.ino (call.Read c.args.file c.args.offset c.args.count) refl refl c.from_residual.result _
+    (exit_is c.from_residual.result _ c.from_residual.ensures.1) c.in_err-cell.ensures.err c.in_err-cell.ensures.stale

@@ -1,10 +1,11 @@
-use Rattle.std.proofs.Common.{rules, ◌≡◌, ℕ, [], subst}
+use Rattle.std.proofs.Common.{rules, ◌≡◌, ℕ, [], subst, refl}
 use Rattle.std.specs.Prelude.{IfOk}
 use Rattle.nv_calls.specs.declared.call.Call.TheVariants as call
 use Rattle.nv_service.specs.Sessions.{IsFoundAt}
 use Rattle.nv_service.specs.Refusing.{view_faults}
 use Rattle.nv_service.proofs.Found.{found_at}
-use Rattle.nv_service.proofs.OtherRefusals.{plain_view, stat_within}
+use Rattle.nv_service.proofs.OtherRefusals.{exit_is, plain_view, stat_within}
+use Rattle.nv_service.proofs.ViewRuns.{held_plain, not_held}
 use Rattle.nv_service.proofs.session.Session.stat.Goals as goal
 
 pub returns-clause-ok : goal.returns-clause-ok
@@ -19,3 +20,13 @@ pub returns-clause-err : goal.returns-clause-err
 returns-clause-err g c =
     plain_view (view_faults (call.Stat c.args.handle)) c.see.result c.stat_on-found.result _ _
     (stat_within (λ n. []) c.args.handle.ino c.part.result.now c.args.handle) c.see.ensures.refused (c.stat_on-found.ensures (λ n. []))
+
+pub returns-clause-run : goal.returns-clause-run
+returns-clause-run g c =
+    held_plain c.args.service.now.geometry.numbers c.args.self.now.number c.args.handle.ino (call.Stat c.args.handle) refl refl c.part.result.now
+    c.in_ok-cell.ensures.slot c.see.result c.stat_on-found.result c.see.ensures.told c.stat_on-found.ensures
+
+pub returns-in_err-cell-clause-run : goal.returns-in_err-cell-clause-run
+returns-in_err-cell-clause-run g c =
+    not_held c.args.service.now.geometry.numbers c.args.self.now.number c.args.handle.ino (call.Stat c.args.handle) refl refl c.from_residual.result _
+    (exit_is c.from_residual.result _ c.from_residual.ensures.1) c.in_err-cell.ensures.err c.in_err-cell.ensures.stale

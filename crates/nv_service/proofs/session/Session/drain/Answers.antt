@@ -1,0 +1,29 @@
+use Rattle.std.proofs.Common.{◌≡◌, ◌-◌, ℕ, ap, subst}
+use Rattle.std.specs.Prelude.{Ok}
+use Rattle.nv_machine.specs.World.{Running, empty_hand}
+use Rattle.nv_steps.specs.LastSteps.{once_drained}
+use Rattle.nv_steps.specs.Runs.{IsRun}
+use Rattle.nv_service.specs.RunCalls.{draining}
+use Rattle.nv_service.proofs.Draining.{exits_run}
+use Rattle.nv_service.proofs.OtherRefusals.{exit_is}
+use Rattle.nv_service.proofs.session.Session.drain.Goals as goal
+
+pub returns-in_err-answer-clause-run : goal.returns-in_err-answer-clause-run
+returns-in_err-answer-clause-run g c =
+    let numbers = c.args.service.now.geometry.numbers in
+    let actor = c.args.self.now.number in
+    let call = draining c.args.number in
+    let starts : once_drained 0 (c.most_drained-most.result - 1) call ≡ call =
+    ap (λ (most : ℕ). once_drained 0 (most - 1) call) c.most_drained-most.ensures in
+    exits_run numbers actor _ call c.from_residual-in_err-answer.result _ starts
+    (exit_is c.from_residual-in_err-answer.result _ c.from_residual-in_err-answer.ensures.1) (c.in_err-answer.ensures.run actor call)
+
+pub returns-clause-run : goal.returns-clause-run
+returns-clause-run g c =
+    let numbers = c.args.service.now.geometry.numbers in
+    let actor = c.args.self.now.number in
+    let call = draining c.args.number in
+    let starts : once_drained 0 (c.most_drained-most.result - 1) call ≡ call =
+    ap (λ (most : ℕ). once_drained 0 (most - 1) call) c.most_drained-most.ensures in
+    subst (λ (r : Running). IsRun numbers actor empty_hand r (Ok c.in_ok-answer.answer) empty_hand) starts
+    (c.in_ok-answer.ensures.run actor call)
