@@ -30,8 +30,8 @@ impl<C: Commits, B: Blocks> Session<C, B> {
         service: &Service<C, B>,
         ino: Ino,
     ) -> Result<Seen, Fault>
-        // A cleaner is a run of the machine's turns, from its start to its answer or refusal, except where a part did not
-        // fit.
+        // A cleaner is a run of the machine's turns, from its start to its answer or refusal, except where it ends by
+        // `Mismatch`.
         ensures run { IsSessionRun service.now.geometry.numbers self.old.number
             machine.empty_hand
             (cleaning service.now.geometry.numbers (SnapshotOrCleanerCall.Fast ino))
@@ -134,7 +134,7 @@ impl<C: Commits, B: Blocks> Session<C, B> {
         service: &Service<C, B>,
         number: u64,
     ) -> Result<Seen, Fault>
-        // A drain is a run of the machine's turns, except where a part does not fit.
+        // A drain is a run of the machine's turns, except where it ends by `Mismatch`.
         ensures run { IsSessionRun service.now.geometry.numbers self.old.number machine.empty_hand
             (draining number) (told_as result) machine.empty_hand }
         // It releases no more than it may.
