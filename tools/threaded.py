@@ -11,8 +11,8 @@ ROOT = pathlib.Path(__file__).resolve().parent.parent
 TEXTS = ROOT / "tools/threaded"
 CRATE = "nv_threaded"
 LIBRARIES = "nv_base nv_calls nv_core nv_service nv_script anyhow"
-# Functions that run under a lock from their beginning to their end: of each lock the file, the function, and the path of its symbol. They
-# are built apart from those that call them, so that their instructions can be told.
+# Functions that run under a lock from their beginning to their end: of each lock the file, the function, and the path of its symbol. The
+# compiler is asked to build them apart from those that call them. Of one that it puts into its caller all the same nothing is told.
 HELD = {
     "commit lock": [
         ("nv_service/src/commit.rt", "commit_over", "nv_service::commit::commit_over"),
