@@ -20,12 +20,12 @@ use Rattle.nv_clean.proofs.Walking.{log_len, there_count}
 abbrev pub has_kept : List Bool → Bool
 has_kept flags = list_any (λ (b : Bool). b) flags
 
-none_both : (b : Bool) → false ≡ (b && false)
+pub none_both : (b : Bool) → false ≡ (b && false)
 none_both true = refl
 none_both false = refl
 
 -- where something keeps an entry of a page, not all of them go
-stops : (block : ℕ) (flags : List Bool) (before page later : List Entry)
+pub stops : (block : ℕ) (flags : List Bool) (before page later : List Entry)
     → has_kept (take (length page) flags) ≡ true
     → false ≡ all_go_by block flags before page later
 stops block [] before [] later h = absurd (false≢true h)
@@ -41,7 +41,7 @@ stops block (false ∷ flags) before (e ∷ page) later h =
     none_both (goes_by block false before e (page ++ later))
     ∙ ap (λ (b : Bool). goes_by block false before e (page ++ later) && b) (stops block flags before page later h)
 
-any_map : {X : Type 0} (test : X → Bool) (xs : List X) → has_kept (map test xs) ≡ list_any test xs
+pub any_map : {X : Type 0} (test : X → Bool) (xs : List X) → has_kept (map test xs) ≡ list_any test xs
 any_map test [] = refl
 any_map test (x ∷ xs) = ap (λ (b : Bool). test x || b) (any_map test xs)
 

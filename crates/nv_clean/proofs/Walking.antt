@@ -88,7 +88,7 @@ nothing_left zero (x ∷ log) le = absurd (omega (arith, le))
 nothing_left (suc n) [] le = refl
 nothing_left (suc n) (x ∷ log) le = nothing_left n log (omega (arith, le))
 
-no_more : (block : ℕ) (there : List Bool) (kept : List Entry) → stays_by block there kept [] ≡ []
+pub no_more : (block : ℕ) (there : List Bool) (kept : List Entry) → stays_by block there kept [] ≡ []
 no_more block [] kept = refl
 no_more block (flag ∷ there) kept = refl
 

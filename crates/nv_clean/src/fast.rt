@@ -1,6 +1,6 @@
 //! Fast cleaning: whole log pages leave that nothing needs. It copies nothing.
 
-ghost use Rattle.std.specs.Prelude.{◌≡◌, ◌+◌, ◌-◌, ◌<◌, ◌≤◌, ◌^◌, IfOk, count_by, length, min, not, false};
+ghost use Rattle.std.specs.Prelude.{◌≡◌, ◌++◌, ◌+◌, ◌-◌, ◌<◌, ◌≤◌, ◌^◌, IfOk, count_by, length, min, not, false};
 ghost use Rattle.nv_base.specs.Refusals.{FailsOnly};
 ghost use Rattle.nv_base.specs.Memory.{out_of_memory};
 ghost use Rattle.nv_cell.specs.Cell.{log_of};
@@ -13,7 +13,7 @@ ghost use Rattle.nv_log.specs.Chain.{end_of, gone_of, log_pages, start_of};
 
 use crate::walk::pages_staying;
 use crate::{Cleaned, Unlinkable};
-use nv_alloc::Hand;
+use nv_alloc::{BlockQueue, Hand};
 use nv_base::Fault;
 use nv_cell::InodeCell;
 use nv_log::Chain;
@@ -115,8 +115,30 @@ pub fn fast_on(cell: &mut InodeCell, unlinkable: Unlinkable, hand: &mut Hand) ->
 {
     let entries = cell.len();
     let pages = cell.log().blocks().len();
+    // The chain is one, so that its pages part its entries.
+    cell.holds_together();
+    unlink(cell, &unlinkable, &mut hand.pages);
+    Cleaned::since(false, entries, pages, cell)
+}
+
+/// Unlinks the pages that go, and puts them into the queue, in order. Where none goes nothing changes, and it costs nothing.
+fn unlink(cell: &mut InodeCell, unlinkable: &Unlinkable, queue: &mut BlockQueue)
+    requires walk { unlinkable.now ≡ unlinkable_of cell.old.state }
+    requires room { unlinkable.now.pages ≤ queue.old.room }
+    requires size { queue.old.size ≡ cell.old.state.block }
+    ensures cell { cell.new.state ≡ with_pages_unlinked unlinkable.now cell.old.state }
+    ensures room { cell.new.room ≡ room_with_pages unlinkable.now cell.old.state cell.old.room }
+    ensures queue { let gone = gone_of unlinkable.now.stays cell.old.state.chain.blocks in
+        queue.new ≡ record queue.old {
+          blocks = queue.old.blocks ++ gone;
+          room = queue.old.room - length gone;
+        } }
+    ensures last { KeepsTheLast cell.old.state cell.new.state }
+{
     // What may go is told by the marks of the parts.
     cell.holds_together();
-    cell.remove_pages(&unlinkable.stays, &mut hand.pages);
-    Cleaned::since(false, entries, pages, cell)
+    if unlinkable.pages == 0 {
+        return;
+    }
+    cell.remove_pages(&unlinkable.stays, queue);
 }

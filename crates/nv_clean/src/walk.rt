@@ -1,6 +1,6 @@
 //! The walks of the cleaners in one pass over the log of a cell.
 
-ghost use Rattle.std.specs.Prelude.{◌≡◌, ℕ, ◌+◌, ◌-◌, ◌<◌, ◌≤◌, ◌++◌, [], IfOk, OnOk, if◌then◌else◌, List, Some, drop, length, min, nat_lt, not, slice_get, slice_index_or, take, ◌&&◌, false};
+ghost use Rattle.std.specs.Prelude.{◌≡◌, ℕ, ◌+◌, ◌-◌, ◌<◌, ◌≤◌, ◌++◌, [], IfOk, OnOk, if◌then◌else◌, List, Some, drop, length, min, nat_lt, not, replicate, slice_get, slice_index_or, take, ◌&&◌, false, true};
 ghost use Rattle.nv_cell.specs.Cell.{log_of};
 ghost use Rattle.nv_entry.specs.ByFlags.{goes_by, page_goes_by};
 ghost use Rattle.nv_clean.specs.Cover.{Covers, is_hidden};
@@ -15,8 +15,59 @@ use nv_entry::Item;
 use std::alloc::{AllocError, Global};
 
 /// Which entries of the log stay in a thorough cleaning, a flag for each: those that something keeps, those that hide an
-/// earlier one that stays, and the last. Takes a byte an entry, and a place in a set for each name that stays.
+/// earlier one that stays, and the last. Where the tallies tell that none may go, no entry is looked at. Takes a byte an
+/// entry, and else a place in a set for each name that stays.
 pub(crate) fn entries_staying(alloc: Global, cell: &InodeCell) -> Result<Vec<bool>, AllocError>
+    ensures { IfOk result (λ stays. stays.items ≡ entries_staying cell.now.state) }
+{
+    if are_entries_kept(cell) {
+        return vec![in alloc; true; cell.tail()];
+    }
+    entries_walked(alloc, cell)
+}
+
+/// Which pages with entries stay in a fast cleaning, a flag for each: those with an entry that would stay, where the
+/// earlier entries of the page count as gone, and those of which no entry is published. Where the counts tell that none
+/// may go, no entry is looked at. Takes a byte a page, and else a place in a set for each name that stays.
+pub(crate) fn pages_staying(alloc: Global, cell: &InodeCell) -> Result<Vec<bool>, AllocError>
+    ensures { IfOk result (λ stays. stays.items ≡ pages_staying cell.now.state) }
+{
+    if are_pages_kept(cell) {
+        return vec![in alloc; true; cell.log().ends().len()];
+    }
+    pages_walked(alloc, cell)
+}
+
+/// Whether something keeps each entry of the log except the last, so that each stays.
+fn are_entries_kept(cell: &InodeCell) -> bool
+    ensures { result ≡ true
+        → entries_staying cell.now.state ≡ replicate cell.now.state.chain.tail true }
+{
+    // The chain is one, so that as many entries count as there are in the log.
+    cell.holds_together();
+    for place in 1..cell.tail() {
+        if !cell.keeps_entry(place - 1) {
+            return false;
+        }
+    }
+    true
+}
+
+/// Whether something keeps an entry of each page with entries, so that each stays.
+fn are_pages_kept(cell: &InodeCell) -> bool
+    ensures { result ≡ true
+        → pages_staying cell.now.state ≡ replicate (length cell.now.state.chain.ends) true }
+{
+    for k in 0..cell.log().ends().len() {
+        if cell.counts(k).valid == 0 {
+            return false;
+        }
+    }
+    true
+}
+
+/// Which entries stay, by a walk from the head.
+fn entries_walked(alloc: Global, cell: &InodeCell) -> Result<Vec<bool>, AllocError>
     ensures { IfOk result (λ stays. stays.items ≡ entries_staying cell.now.state) }
 {
     // The chain is one, so that as many entries count as there are in the log.
@@ -31,10 +82,8 @@ pub(crate) fn entries_staying(alloc: Global, cell: &InodeCell) -> Result<Vec<boo
     Ok(stays)
 }
 
-/// Which pages with entries stay in a fast cleaning, a flag for each: those with an entry that would stay, where the
-/// earlier entries of the page count as gone, and those of which no entry is published. Takes a byte a page, and a place
-/// in a set for each name that stays.
-pub(crate) fn pages_staying(alloc: Global, cell: &InodeCell) -> Result<Vec<bool>, AllocError>
+/// Which pages stay, by a walk from the head.
+fn pages_walked(alloc: Global, cell: &InodeCell) -> Result<Vec<bool>, AllocError>
     ensures { IfOk result (λ stays. stays.items ≡ pages_staying cell.now.state) }
 {
     // The chain is one, so that its pages part its entries.

@@ -10,7 +10,7 @@ use Rattle.nv_entry.specs.ByFlags.{pages_stay_by}
 use Rattle.nv_entry.specs.Clean.{pages_by, select}
 use Rattle.nv_entry.proofs.Flags.{counts_left}
 use Rattle.nv_log.specs.Chain.{ChainState, end_of, log_pages, start_of}
-use Rattle.nv_clean.proofs.walk.pages_staying.Goals as goal
+use Rattle.nv_clean.proofs.walk.pages_walked.Goals as goal
 
 pub loop-k-init : goal.loop-k-init
 loop-k-init c =

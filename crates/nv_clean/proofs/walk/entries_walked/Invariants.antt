@@ -5,7 +5,7 @@ use Rattle.nv_clean.specs.Cover.{Covers}
 use Rattle.nv_clean.specs.Plans.{entries_staying}
 use Rattle.nv_entry.specs.ByFlags.{stays_by}
 use Rattle.nv_entry.specs.Clean.{select}
-use Rattle.nv_clean.proofs.walk.entries_staying.Given as goal
+use Rattle.nv_clean.proofs.walk.entries_walked.Given as goal
 
 abbrev pub invariant-loop-place : goal.invariant-loop-place
 invariant-loop-place l = record {

@@ -5,7 +5,7 @@ use Rattle.nv_cell.specs.Readers.{there_flags}
 use Rattle.nv_clean.specs.Cover.{Covers}
 use Rattle.nv_clean.proofs.Walking.{after_walk, entry_step, entry_there, log_len, more_covered, there_count}
 use Rattle.nv_entry.specs.Clean.{select}
-use Rattle.nv_clean.proofs.walk.entries_staying.Goals as goal
+use Rattle.nv_clean.proofs.walk.entries_walked.Goals as goal
 
 pub loop-place-init : goal.loop-place-init
 loop-place-init c = record {

@@ -6,7 +6,7 @@ use Rattle.nv_clean.specs.Plans.{pages_staying}
 use Rattle.nv_entry.specs.ByFlags.{pages_stay_by}
 use Rattle.nv_entry.specs.Clean.{pages_by, select}
 use Rattle.nv_log.specs.Chain.{log_pages, start_of}
-use Rattle.nv_clean.proofs.walk.pages_staying.Given as goal
+use Rattle.nv_clean.proofs.walk.pages_walked.Given as goal
 
 abbrev pub invariant-loop-k : goal.invariant-loop-k
 invariant-loop-k l = record {
