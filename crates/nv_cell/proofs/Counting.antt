@@ -40,6 +40,16 @@ how_many_next test from next page begin le is =
     let m = how_many_more test from (next - from) (page - from) (omega arith) in
     omega (arith, s, m)
 
+-- those of two ranges, one behind the other, are no more than those of one over both
+pub how_many_parts : (test : ℕ → Bool) (from next start end : ℕ) → from ≤ next → next ≤ start → start ≤ end
+    → how_many test from (next - from) + how_many test start (end - start) ≤ how_many test from (end - from)
+how_many_parts test from next start end a b c =
+    let x : (start - from) + (end - start) ≡ end - from = omega arith in
+    let y : from + (start - from) ≡ start = omega arith in
+    let s = rw (x, y) at (how_many_split test from (start - from) (end - start)) in
+    let m = how_many_more test from (next - from) (start - from) (omega arith) in
+    omega (arith, s, m)
+
 -- pages of a run are at most as many as the run has
 few_in_run : (first len from n : ℕ)
     → how_many (λ page. nat_le first page && nat_lt page (first + len)) from n ≤ first + len - max first from

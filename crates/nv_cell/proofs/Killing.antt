@@ -170,3 +170,21 @@ pub page_pushed : (es : List Entry) (index : IndexValue) → AreNamed es index
 page_pushed es index named from next page a b part old mid new h begin le gap one less =
     both es index (is_page_in from page) (is_key (PageKey page)) (is_page_in from (page + 1)) a 1 b old mid new
     (skipped es index from next page a a old mid h begin le gap (omega arith)) one (page_sum from page (omega arith)) less
+
+pages_sum : (from mid to : ℕ) → from ≤ mid → mid ≤ to → (k : Key)
+    → cond (is_page_in from mid k) 1 0 + cond (is_page_in mid to k) 1 0 ≡ cond (is_page_in from to k) 1 0
+pages_sum from mid to a b KindKey = refl
+pages_sum from mid to a b ModeKey = refl
+pages_sum from mid to a b SizeKey = refl
+pages_sum from mid to a b (NameKey m) = refl
+pages_sum from mid to a b (PageKey p) = grind (arith, nat_tests)
+
+-- the pages of one more range, behind a gap
+pub pages_pushed : (es : List Entry) (index : IndexValue) (from next start end a b most : ℕ) (old mid new : Vec NumberedPart)
+    → Pushes es index (is_page_in from next) a old mid → from ≤ next → next ≤ start → start ≤ end
+    → ((p : ℕ) → next ≤ p → p < start → ref_of index (PageKey p) ≡ None)
+    → Pushes es index (is_page_in start end) b mid new → a + b ≤ most → Pushes es index (is_page_in from end) most old new
+pages_pushed es index from next start end a b most old mid new h begin le order gap more few =
+    both es index (is_page_in from start) (is_page_in start end) (is_page_in from end) a b most old mid new
+    (skipped es index from next start a a old mid h begin le gap (omega arith)) more
+    (pages_sum from start end (omega (arith, begin, le)) order) few

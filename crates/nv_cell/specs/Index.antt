@@ -1,5 +1,5 @@
 -- The index of an inode: which part of which entry holds each key's value.
-use Rattle.std.specs.Prelude.{◌≡◌, ℕ, ◌+◌, ◌<◌, ◌≤◌, ◌⊎◌, List, [], ◌∷◌, Option, Some, None, IsSome}
+use Rattle.std.specs.Prelude.{◌≡◌, ℕ, ◌+◌, ◌⊎◌, List, [], ◌∷◌, Option, Some, None, IsSome}
 use Rattle.std.specs.Option.{option_map}
 use Rattle.nv_base.specs.declared.numbers.EntryId.{EntryId}
 use Rattle.nv_entry.specs.declared.item.Entry.{Entry}
@@ -63,9 +63,3 @@ NamesAfter id (Bind name to) old new = Rebinds old.names new.names name (Some (r
 NamesAfter id (Unbind name) old new = Rebinds old.names new.names name None × (new.reserved ≡ old.reserved)
 NamesAfter id Gone old new = (new.names ≡ []) × (new.reserved ≡ old.reserved)
 NamesAfter id item old new = new ≡ old
-
--- the least page from `from` on that has a part, with that part; none where there is no such page
-abbrev pub IsNextPart : ℕ → (ℕ → Option PartRef) → Option (ℕ × PartRef) → Type 0
-IsNextPart from parts None = (page : ℕ) → from ≤ page → parts page ≡ None
-IsNextPart from parts (Some found) =
-    (from ≤ found.0) × (parts found.0 ≡ Some found.1) × ((page : ℕ) → from ≤ page → page < found.0 → parts page ≡ None)

@@ -4,11 +4,11 @@ ghost use Rattle.std.specs.Prelude.{◌≡◌, ℕ, ◌+◌, ◌-◌, ◌<◌, �
 ghost use Rattle.std.specs.Option.{option_map};
 ghost use Rattle.nv_base.specs.Memory.{out_of_memory};
 ghost use Rattle.nv_base.specs.declared.limits.TheConstants.{FILE_PAGES};
-ghost use Rattle.nv_findex.specs.Pages.{AreWithin, present_from, ref_at, run_count_of};
+ghost use Rattle.nv_findex.specs.Pages.{AreWithin, IsRun, IsRunFrom, present_from, ref_at, run_count_of};
 ghost use Rattle.nv_entry.specs.Keys.{Key as KeyValue, is_page, key_named, NameKey, PageKey, KindKey, ModeKey, SizeKey};
 ghost use Rattle.nv_entry.specs.Refs.{ref_after};
 ghost use Rattle.nv_nindex.specs.NameIndex.{AreDistinct, binding_of};
-ghost use Rattle.nv_cell.specs.Index.{IsNextPart, NameReady, NamesAfter, name_part, ref_of};
+ghost use Rattle.nv_cell.specs.Index.{NameReady, NamesAfter, name_part, ref_of};
 ghost use Rattle.nv_cell.specs.Effects.{BindOne, NamesReady};
 ghost use Rattle.nv_cell.specs.Room.{HasSameParts};
 ghost use Rattle.nv_cell.specs.Weights.{page_runs_needed};
@@ -19,7 +19,7 @@ use crate::needs::{run_sets, write_count};
 use nv_base::limits::FILE_PAGES;
 use nv_base::{EntryId, Fault};
 use nv_entry::{Entry, Item, Key, PartRef};
-use nv_findex::FileIndex;
+use nv_findex::{FileIndex, PageRun};
 use nv_nindex::{Binding, NameIndex};
 use std::alloc::Global;
 use std::marker::Model;
@@ -154,17 +154,13 @@ impl CellIndex {
         }
     }
 
-    /// The least present page that isn't below `page`, with its part.
-    pub fn page_from(&self, page: u32) -> Option<(u32, PartRef)>
-        ensures next { IsNextPart page (λ at. ref_of self.now (PageKey at)) result }
-        ensures within { IfSome result (λ found. found.0 < FILE_PAGES) }
+    /// All of the run of pages that has a page, or else the first one behind it, which is looked for at a place among
+    /// the runs first. That becomes the place behind the run.
+    pub fn run_near(&self, page: u32, place: &mut usize) -> Option<PageRun>
+        ensures run { IsRunFrom page (ref_at self.now.pages.pages) result }
+        ensures within { IfSome result (λ run. IsRun run) }
     {
-        let (page, at) = self.pages.next_from(page)?;
-        let part = PartRef {
-            entry: at.entry,
-            place: at.place + 1,
-        };
-        Some((page, part))
+        self.pages.run_near(page, place)
     }
 
     /// How many pages are present from one on. Costs a look-up and a step for each run and empty place behind it.

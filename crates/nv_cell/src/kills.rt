@@ -1,16 +1,41 @@
 //! The parts that an entry kills: those whose keys it covers and that the index names.
 
-ghost use Rattle.std.specs.Prelude.{◌≡◌, ℕ, ◌+◌, ◌<◌, ◌≤◌, ◌==◌, if◌then◌else◌, length, min, vec_capacity, vec_len};
+ghost use Rattle.std.specs.Prelude.{◌≡◌, ℕ, ◌+◌, ◌<◌, ◌≤◌, ◌==◌, Some, if◌then◌else◌, length, min, vec_capacity, vec_len};
 ghost use Rattle.nv_base.specs.declared.limits.TheConstants.{FILE_PAGES};
 ghost use Rattle.nv_entry.specs.Keys.{covers, key_named};
-ghost use Rattle.nv_findex.specs.Pages.{present_from};
+ghost use Rattle.nv_findex.specs.Pages.{IsRun, IsRunOf, present_from, ref_at};
+ghost use Rattle.nv_log.specs.Chain.{place_of_id};
 ghost use Rattle.nv_cell.specs.Numbers.{AreEnds, AreNamed, HasRoomFor, IsPart, Pushes, is_any_name, is_key, is_page_in, is_stat, number, numbers_in, times};
 ghost use Rattle.nv_cell.specs.Weights.{present_between, weight_by};
 
 use crate::{CellIndex, Marks, NumberedPart};
 use nv_base::limits::FILE_PAGES;
 use nv_entry::{Item, Key, PartRef};
+use nv_findex::PageRun;
 use nv_log::Chain;
+
+/// Puts a part on the list, of the entry at a place of the log.
+fn push_part_at(
+    killed: &mut Vec<NumberedPart>,
+    chain: &Chain,
+    marks: &Marks,
+    part: PartRef,
+    entry: usize,
+)
+    requires ends { AreEnds marks.now.ends.items chain.now.state.entries }
+    requires place { place_of_id chain.now.state.entries part.entry ≡ Some entry }
+    requires within { entry < length chain.now.state.entries }
+    requires known { IsPart chain.now.state.entries part }
+    requires room { HasRoomFor 1 killed.old }
+    ensures numbers { (n : ℕ) → times n (numbers_in killed.new.items)
+        ≡ times n (numbers_in killed.old.items)
+        + (if number chain.now.state.entries part == n then 1 else 0) }
+    ensures len { vec_len killed.new ≡ vec_len killed.old + 1 }
+    ensures capacity { vec_capacity killed.new ≡ vec_capacity killed.old }
+{
+    let number = marks.first(entry) + part.place as usize;
+    killed.push_reserved(NumberedPart { number, entry });
+}
 
 /// Puts a part on the list.
 fn push_part(killed: &mut Vec<NumberedPart>, chain: &Chain, marks: &Marks, part: PartRef)
@@ -24,8 +49,7 @@ fn push_part(killed: &mut Vec<NumberedPart>, chain: &Chain, marks: &Marks, part:
     ensures capacity { vec_capacity killed.new ≡ vec_capacity killed.old }
 {
     let entry = chain.place_of(part.entry).unwrap();
-    let number = marks.first(entry) + part.place as usize;
-    killed.push_reserved(NumberedPart { number, entry });
+    push_part_at(killed, chain, marks, part, entry);
 }
 
 /// Puts the part on the list that a key has.
@@ -47,7 +71,40 @@ fn push_key(
     }
 }
 
-/// Puts the parts on the list that the pages of a range have.
+/// Puts the parts on the list that some pages of one run in the index have. Its entry is looked for once.
+fn push_stretch(
+    killed: &mut Vec<NumberedPart>,
+    chain: &Chain,
+    marks: &Marks,
+    index: &CellIndex,
+    run: &PageRun,
+    from: u32,
+    to: u32,
+)
+    requires ends { AreEnds marks.now.ends.items chain.now.state.entries }
+    requires named { AreNamed chain.now.state.entries index.now }
+    requires run { IsRunOf (ref_at index.now.pages.pages) run.now }
+    requires sized { IsRun run.now }
+    requires first { run.now.first ≤ from }
+    requires order { from < to }
+    requires end { to ≤ run.now.end }
+    requires room { HasRoomFor (present_between index.now from to) killed.old }
+    ensures { Pushes chain.now.state.entries index.now (is_page_in from to)
+        (present_between index.now from to) killed.old killed.new }
+{
+    let entry = chain.place_of(run.start.entry).unwrap();
+    for page in from..to {
+        let at = run.page_ref(page);
+        let part = PartRef {
+            entry: at.entry,
+            place: at.place + 1,
+        };
+        push_part_at(killed, chain, marks, part, entry);
+    }
+}
+
+/// Puts the parts on the list that the pages of a range have. Costs one look-up, and for each run in the index the
+/// search for its entry.
 fn push_pages(
     killed: &mut Vec<NumberedPart>,
     chain: &Chain,
@@ -65,11 +122,14 @@ fn push_pages(
         (present_between index.now from to) killed.old killed.new }
 {
     let mut next = from;
-    for _step in from..to {
-        match index.page_from(next) {
-            Some((page, part)) if page < to => {
-                push_part(killed, chain, marks, part);
-                next = page + 1;
+    let mut place = 0;
+    'runs: while next < to {
+        match index.run_near(next, &mut place) {
+            Some(run) if run.first < to => {
+                let start = run.first.max(next);
+                let end = run.end.min(to);
+                push_stretch(killed, chain, marks, index, &run, start, end);
+                next = end;
             }
             _ => return,
         }
