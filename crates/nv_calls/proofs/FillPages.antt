@@ -1,6 +1,6 @@
 -- The blocks of a call, filled one after another.
 use Rattle.std.proofs.Common.{◌≡◌, ℕ, zero, suc, ◌+◌, ◌-◌, ◌*◌, ◌<◌, ◌≤◌, ◌==◌, Bool, true, false, cond, min, List, [], ◌∷◌, ◌++◌, length, map, replicate, take, drop, Option, Some, arith, refl, ap, sym, ◌∙◌, subst}
-use Rattle.std.specs.Prelude.{Result, Ok, Err, OnErr, fold}
+use Rattle.std.specs.Prelude.{Result, Ok, Err, IfSome, OnErr, fold, option_and_then}
 use Rattle.std.specs.List.{AllByRecursion, range_with_len, refill}
 use Rattle.std.specs.Option.{ForSome}
 use Rattle.std.proofs.Math.Seq.{take-append_seam}
@@ -12,8 +12,9 @@ use Rattle.nv_alloc.specs.Queue.{QueueValue}
 use Rattle.nv_alloc.specs.QueueLends.{with_bytes_at}
 use Rattle.nv_entry.specs.Bytes.{read_at}
 use Rattle.nv_base.specs.declared.numbers.Handle.{Handle}
-use Rattle.nv_cell.specs.Cell.{CellValue}
-use Rattle.nv_cell.specs.Pages.{slot_bytes}
+use Rattle.nv_cell.specs.Cell.{CellValue, IsCell}
+use Rattle.nv_cell.specs.Pages.{block_at_page, slot_bytes}
+use Rattle.nv_cell.proofs.PageBlocks.{page_sized}
 use Rattle.nv_calls.specs.Filling.{overlaid, text_part}
 use Rattle.nv_calls.specs.FillPages.{HasOtherBytes, block_for, cut_page, filled, page_in, page_with}
 use Rattle.nv_calls.specs.Nodes.{cell_of}
@@ -37,6 +38,16 @@ page_len size cells file page old is sized = go (block_for cells file page)
     (subst (λ o. ForSome o (λ b. length b.bytes ≡ size)) is sized) where
       go : (o : Option BlockValue) → ForSome o (λ b. length b.bytes ≡ size) → length (slot_bytes size o) ≡ size
       go o h = old_len size o h
+
+-- so has each page of a file that a cell has
+pub page_of_cell : (size : ℕ) (cells : List (ℕ × CellValue)) (file : Handle) (page : ℕ) (c : CellValue)
+    → Some c ≡ cell_of cells file.ino → IsCell c.state → AllByRecursion (λ x. x.1.state.block ≡ size) cells
+    → length (page_in cells size file page) ≡ size
+page_of_cell size cells file page c is sound all =
+    ap (λ (o : Option CellValue). length (slot_bytes size (option_and_then (λ x. block_at_page x.state page) o))) (sym is)
+    ∙ old_len size (block_at_page c.state page) (λ b q.
+    subst (λ o. IfSome o (λ x. length x.bytes ≡ c.state.block)) q (page_sized c.state page sound.chain.rising sound.blocks.sized)
+    ∙ found_size cells file.ino size c all is)
 
 -- ---- parts of a text
 

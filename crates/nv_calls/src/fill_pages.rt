@@ -33,6 +33,45 @@ fn block_for<'a, C: Cells>(
     cell.page_now(page as u32)
 }
 
+/// What holds of the cells of a call: each page of a file has the bytes of a block. Costs no look-up.
+fn pages_have_their_size<C: Cells>(nodes: &HeldNodes<'_, C>, file: &Handle)
+    ensures { (page size : ℕ)
+        → AllByRecursion (λ c. c.1.state.block ≡ size) (C.cells nodes.now.cells.now)
+        → length (page_in (C.cells nodes.now.cells.now) size file.now page) ≡ size }
+{
+    if let Some(cell) = nodes.cell_of(file.ino) {
+        cell.holds_together();
+    }
+}
+
+/// The block that the cell of a file has for a page of which a text of `count` bytes from `offset` on leaves any. A page
+/// that the text covers is not looked up.
+fn page_before<'a, C: Cells>(
+    nodes: &'a HeldNodes<'_, C>,
+    file: &Handle,
+    block: u64,
+    page: u64,
+    offset: u64,
+    count: u64,
+) -> Option<&'a Block>
+    requires within { page < FILE_PAGES }
+    requires few_bytes { block ≤ BLOCK_BYTES }
+    requires end { offset + count < 2 ^ 64 }
+    requires sizes { AllByRecursion (λ c. c.1.state.block ≡ block) (C.cells nodes.now.cells.now) }
+    requires page { length (page_in (C.cells nodes.now.cells.now) block file.now page) ≡ block }
+    ensures page { (text : List ℕ) → length text ≡ count
+        → page_with block offset text page (slot_bytes block (option_copied result))
+        ≡ page_with block offset text page
+        (page_in (C.cells nodes.now.cells.now) block file.now page) }
+    ensures sized { ForSome (option_copied result) (λ b. length b.bytes ≡ block) }
+{
+    let start = page * block;
+    if offset <= start && start + block <= offset + count {
+        return None;
+    }
+    block_for(nodes, file, page)
+}
+
 /// Fills the block at a place with an old page, and with the part that lies in this page of a text from `offset` on.
 /// The source is asked once.
 fn fill_part<S: Source>(
@@ -73,7 +112,8 @@ fn fill_part<S: Source>(
 }
 
 /// Fills each block of a queue with a page of a file, from the one on in which `offset` lies, and with the part of a
-/// text from there on that lies in it. The source is asked once for each page.
+/// text from there on that lies in it. The source is asked once for each page, and only pages that it does not fill whole
+/// are looked up.
 fn fill_pages<C: Cells, S: Source>(
     queue: &mut BlockQueue,
     nodes: &HeldNodes<'_, C>,
@@ -108,10 +148,12 @@ fn fill_pages<C: Cells, S: Source>(
     ensures ok { OnOk result (S.failed source.new ≡ S.failed source.old) }
     ensures err { OnErr result (S.failed source.new ≡ S.failed source.old + 1) }
 {
-    let first = offset / queue.block_bytes() as u64;
+    pages_have_their_size(nodes, file);
+    let block = queue.block_bytes() as u64;
+    let first = offset / block;
     for place in 0..queue.len() {
         let page = first + place;
-        let old = block_for(nodes, file, page);
+        let old = page_before(nodes, file, block, page, offset, count);
         fill_part(queue, place as usize, old, page, offset, count, source)?;
     }
     Ok(())
@@ -188,7 +230,7 @@ fn fill_blocks<C: Cells, S: Source>(
 ///
 /// `Read` where the source failed, which is asked no more then. Whatever comes of it, nothing but the bytes of the
 /// call's own blocks has changed, so that it can be given up. Takes no memory, and costs the bytes of these blocks
-/// and a look-up for each.
+/// and a look-up for each that the text does not fill whole.
 pub fn fill<C: Cells, S: Source>(ready: &mut Ready, cells: &C, source: &mut S) -> Result<(), Fault>
     requires can { CanFill (C.cells cells.now) ready.old.update ready.old.hand.data }
     requires failures { S.failed source.old < 2 ^ 64 - 1 }
