@@ -25,6 +25,7 @@ pub mod Keeps
 pub mod Lawful
 pub mod SomeSlots
 pub mod LogPages
+pub mod Looking
 pub mod RefusedLooks
 pub mod Next
 pub mod NextBytes

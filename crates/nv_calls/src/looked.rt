@@ -3,7 +3,7 @@
 ghost use Rattle.std.specs.Prelude.{◌≡◌};
 ghost use Rattle.nv_calls.specs.AllCalls.{looked};
 ghost use Rattle.nv_calls.specs.Checked.{same_found, same_looked};
-ghost use Rattle.nv_calls.specs.Refusals.{found, look};
+ghost use Rattle.nv_calls.specs.Refusals.{found, kind_of, look, passes, want_directory, want_lawful};
 ghost use Rattle.nv_calls.specs.Updates.{blank_call};
 
 use crate::wants::{want_directory, want_lawful};
@@ -37,6 +37,15 @@ pub fn found<N: Nodes>(nodes: &N, dir: &Handle, name: &[u8]) -> Option<Handle>
         Ok(to) => to,
         Err(_) => None,
     }
+}
+
+/// What a look finds of which the tests are known to pass. Tests nothing again.
+pub(crate) fn bound<N: Nodes>(nodes: &N, dir: &Handle, name: &[u8]) -> Option<Handle>
+    requires { want_directory (kind_of (N.nodes_of nodes.now dir.now))
+        (want_lawful name.now passes) ≡ passes }
+    ensures { result ≡ found (N.nodes_of nodes.now) dir.now name.now }
+{
+    nodes.lookup(dir, name)
 }
 
 /// What the names of a call lead to now.

@@ -10,8 +10,8 @@ ghost use Rattle.nv_calls.specs.Refusals.{passes};
 ghost use Rattle.nv_calls.specs.Updates.{blank_call, blocks_taken};
 
 use crate::calls::{create, mkdir, mode, rename, size, unlink, write};
-use crate::looked::{found, look_all};
-use crate::{Allocation, InodePlans, Nodes, Update};
+use crate::looked::bound;
+use crate::{Allocation, InodePlans, LookupResult, Nodes, Update};
 use nv_base::Fault;
 use std::alloc::Global;
 
@@ -66,11 +66,13 @@ pub fn plan_items<N: Nodes>(
         Update::Size { file, size } => Ok(size::plan(alloc, block, *file, *size, runs)?),
         Update::Mode { handle, mode } => Ok(mode::plan(alloc, *handle, *mode)?),
         Update::Unlink { dir, name } | Update::Rmdir { dir, name } => {
-            let bound = found(nodes, dir, name.as_slice());
-            unlink::plan(alloc, *dir, name.as_slice(), bound)
+            let to = bound(nodes, dir, name.as_slice());
+            unlink::plan(alloc, *dir, name.as_slice(), to)
         }
         Update::Rename { from, old, to, new } => {
-            let looked = look_all(nodes, call);
+            let first = bound(nodes, from, old.as_slice());
+            let second = bound(nodes, to, new.as_slice());
+            let looked = LookupResult { first, second };
             rename::plan(alloc, *from, old.as_slice(), *to, new.as_slice(), &looked)
         }
     }
