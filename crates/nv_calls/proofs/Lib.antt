@@ -30,6 +30,7 @@ pub mod RefusedLooks
 pub mod Next
 pub mod NextBytes
 pub mod NextSound
+pub mod NoPages
 pub mod NodesHeld
 pub mod Nothing
 pub mod Passed

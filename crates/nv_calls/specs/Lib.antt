@@ -1,4 +1,5 @@
 pub mod AllCalls
+pub mod ByNames
 pub mod CanCommit
 pub mod Cells
 pub mod Checked

@@ -1,11 +1,15 @@
 //! How many log pages a plan needs.
 
-ghost use Rattle.std.specs.Prelude.{◌≡◌, ◌+◌, ◌<◌, ◌≤◌, ◌^◌, ℕ, List, length, not};
+ghost use Rattle.std.specs.Prelude.{◌≡◌, ◌+◌, ◌<◌, ◌≤◌, ◌^◌, ℕ, List, length, not, true};
 ghost use Rattle.std.specs.List.{AllByRecursion, sum_by};
 ghost use Rattle.nv_alloc.specs.Block.{numbers_of};
+ghost use Rattle.nv_alloc.specs.declared.hand.Hand.{Hand as HandValue};
+ghost use Rattle.nv_log.specs.Chain.{room_of};
 ghost use Rattle.nv_calls.specs.declared.log_pages.TheConstants.{MORE_PAGES};
 ghost use Rattle.nv_calls.specs.declared.allocation.Allocation.{Allocation};
 ghost use Rattle.nv_calls.specs.AllCalls.{plan};
+ghost use Rattle.nv_calls.specs.ByNames.{goes_by_names};
+ghost use Rattle.nv_calls.specs.Cells.{state_at};
 ghost use Rattle.nv_calls.specs.PagesWanted.{entry_counts, goes_on, pages_wanted};
 ghost use Rattle.nv_calls.specs.Plan.{block_runs_of};
 ghost use Rattle.nv_calls.specs.Prepared.{CanReady, planned_by};
@@ -111,9 +115,46 @@ fn begins_run(next: Option<u64>, number: u64) -> bool
     }
 }
 
+/// Whether what a call appends hangs on what its names lead to.
+fn goes_by_names(update: &Update) -> bool
+    ensures { result ≡ goes_by_names update.now }
+{
+    matches!(
+        update,
+        Update::Unlink { .. } | Update::Rmdir { .. } | Update::Rename { .. }
+    )
+}
+
+/// Whether the log of each cell takes so many entries in the pages that it has.
+fn have_room<C: Cells>(cells: &C, entries: usize) -> bool
+    requires { length (C.cells cells.now) ≤ 4 }
+    ensures { (k : ℕ) → result ≡ true → k < length (C.cells cells.now)
+        → entries ≤ room_of (state_at (C.cells cells.now) k).chain }
+{
+    for k in 0..cells.count() {
+        if cells.cell(k).room() < entries {
+            return false;
+        }
+    }
+    true
+}
+
+/// Whether a call is known to take no log page, whatever its names lead to: it hangs on these, so that it appends at most
+/// two entries to a log, and each log takes as many in the pages that it has.
+fn takes_none<C: Cells>(cells: &C, update: &Update) -> bool
+    requires { length (C.cells cells.now) ≤ 4 }
+    ensures { (hand : HandValue) → result ≡ true
+        → pages_wanted (C.cells cells.now) (planned_by (C.cells cells.now) hand update.now) ≡ 0 }
+{
+    if goes_by_names(update) {
+        return have_room(cells, 2);
+    }
+    false
+}
+
 /// How many log pages the items of a call need, with the data blocks and the number of a new inode in the hand, beyond
 /// those that the logs of its cells have room in. Takes no memory. Costs the data blocks in the hand, and the look-ups
-/// of its plan.
+/// of its plan where a log may lack room.
 /// Only tested: counting the log pages takes no memory.
 pub fn pages_wanted<C: Cells>(cells: &C, update: &Update, hand: &Hand) -> u64
     requires can { CanReady (C.cells cells.now) hand.now update.now }
@@ -121,6 +162,19 @@ pub fn pages_wanted<C: Cells>(cells: &C, update: &Update, hand: &Hand) -> u64
     ensures wanted { result ≡ pages_wanted (C.cells cells.now)
         (planned_by (C.cells cells.now) hand.now update.now) }
     // A call takes at most `MORE_PAGES` log pages more than data blocks.
+    ensures few { result ≤ length hand.now.data.blocks + MORE_PAGES }
+{
+    if takes_none(cells, update) {
+        return 0;
+    }
+    count_pages(cells, update, hand)
+}
+
+/// How many log pages they need, inode by inode.
+fn count_pages<C: Cells>(cells: &C, update: &Update, hand: &Hand) -> u64
+    requires can { CanReady (C.cells cells.now) hand.now update.now }
+    ensures wanted { result ≡ pages_wanted (C.cells cells.now)
+        (planned_by (C.cells cells.now) hand.now update.now) }
     ensures few { result ≤ length hand.now.data.blocks + MORE_PAGES }
 {
     let nodes = HeldNodes::new(cells);

@@ -1,7 +1,7 @@
 use Rattle.std.proofs.Common.{◌≡◌, ◌+◌, ◌*◌, ◌≤◌, ℕ, take}
 use Rattle.std.specs.List.{sum_by}
 use Rattle.nv_calls.proofs.PagesByInode.{pages_at}
-use Rattle.nv_calls.proofs.log_pages.pages_wanted.Given as goal
+use Rattle.nv_calls.proofs.log_pages.count_pages.Given as goal
 
 abbrev pub invariant-loop-ino : goal.invariant-loop-ino
 invariant-loop-ino g l = record {
