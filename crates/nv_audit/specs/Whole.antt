@@ -59,7 +59,7 @@ device_with numbers cells lists book hands = record {
 abbrev pub IsCountedWith : List ℕ → List PartId → CellState → Type 0
 IsCountedWith snapshots pending cell = AreCounted (record { block = cell.block; snapshots = snapshots; pending = pending }) cell
 
--- the counts of each inode are those of its log, where `pending` has a list for each slot
+-- the counts of each inode are those of its log, where these lists have the pending parts of each slot
 abbrev pub CountsAgreeWith : List ℕ → List (Vec PartId) → List CellState → Type 0
 CountsAgreeWith snapshots pending cells =
     (ino : ℕ) (default : CellState) → ino < length cells

@@ -14,7 +14,7 @@ ghost use Rattle.nv_audit.specs.Records.{states_of};
 ghost use Rattle.std.specs.Option.{option_copied};
 
 use crate::parts::part_at;
-use crate::pending::{listed, living, pending_by_slot};
+use crate::pending::{listed, living, pending_at, pending_by_slot};
 use crate::retained::retained_parts;
 use crate::{InHands, InodePart};
 use nv_alloc::{Block, FreeList};
@@ -87,7 +87,7 @@ fn used_from(
         let retention = Retention {
             block: cell.block_bytes(),
             snapshots,
-            pending: &pending[place],
+            pending: pending_at(&pending, place),
         };
         push_used(alloc, &mut used, &retention, cell)?;
     }

@@ -16,7 +16,7 @@ use crate::InodePart;
 use crate::deaths::deaths_of;
 use crate::kept_parts::{death_at, pair_from};
 use crate::parts::part_at;
-use crate::pending::pending_by_slot;
+use crate::pending::{pending_at, pending_by_slot};
 use nv_base::{Epoch, Fault, Ino};
 use nv_book::Record;
 use nv_cell::InodeCell;
@@ -42,7 +42,8 @@ pub(crate) fn owed_records(
     let mut owed = Vec::new(alloc);
     for place in 0..cells.len() {
         let ino = Ino::new(place as u64);
-        push_owed_by(alloc, &mut owed, snaps, ino, &cells[place], &pending[place])?;
+        let named = pending_at(&pending, place);
+        push_owed_by(alloc, &mut owed, snaps, ino, &cells[place], named)?;
     }
     Ok(owed)
 }
@@ -60,6 +61,10 @@ fn push_owed_by(
         ++ owed_records_by (ids snaps.now) named.now ino cell.now.state) }
     ensures err { FailsOnly out_of_memory result }
 {
+    // A log without an entry owes nothing.
+    if cell.log().log().is_empty() {
+        return Ok(());
+    }
     let deaths = deaths_of(alloc, cell)?;
     push_owed(owed, snaps, ino, cell, &deaths, named)?;
     Ok(())

@@ -1,8 +1,8 @@
 //! What is on its way: in hands, or deferred.
 
-ghost use Rattle.std.specs.Prelude.{◌≡◌, ◌==◌, ◌++◌, ℕ, [], ◌∷◌, IfOk, OnOk, if◌then◌else◌};
+ghost use Rattle.std.specs.Prelude.{◌≡◌, ◌<◌, ◌==◌, ◌++◌, ℕ, [], ◌∷◌, IfOk, OnOk, if◌then◌else◌};
 ghost use Rattle.nv_epoch.specs.SnapList.{ids};
-ghost use Rattle.nv_audit.specs.Pending.{ArePendingOf, HaveMore, deferred_of, of_inode};
+ghost use Rattle.nv_audit.specs.Pending.{ArePendingOf, HaveMore, deferred_of, of_inode, parts_at, pending_of};
 
 use crate::InodePart;
 use nv_base::{BlockNo, Epoch, Ino};
@@ -18,9 +18,36 @@ pub struct InHands {
     pub parts: Vec<InodePart>,
 }
 
-/// The parts of each of so many slots that are deferred or in hands. Costs the lengths of both lists, and memory for each
-/// slot and each of their parts.
+/// The parts of each of so many slots that are deferred or in hands: a list for each slot, or none at all where no part is
+/// either. Costs the lengths of both lists, and, unless these are empty, memory for each slot and each of their parts.
 pub(crate) fn pending_by_slot(
+    alloc: Global,
+    slots: usize,
+    deferred: &[Record],
+    in_hands: &[InodePart],
+) -> Result<Vec<Vec<PartId>>, AllocError>
+    ensures { IfOk result (λ lists. (slot : ℕ) → slot < slots
+        → parts_at lists.items slot ≡ pending_of slot deferred.now in_hands.now) }
+{
+    if deferred.is_empty() && in_hands.is_empty() {
+        return Ok(Vec::new(alloc));
+    }
+    let lists = all_pending(alloc, slots, deferred, in_hands)?;
+    Ok(lists)
+}
+
+/// The pending parts of a slot, by these lists.
+pub(crate) fn pending_at(lists: &[Vec<PartId>], slot: usize) -> &[PartId]
+    ensures { result.now ≡ parts_at lists.now slot }
+{
+    match lists.get(slot) {
+        Some(list) => list,
+        None => &[],
+    }
+}
+
+/// The parts of each of so many slots that are deferred or in hands, with a list for each slot.
+pub(crate) fn all_pending(
     alloc: Global,
     slots: usize,
     deferred: &[Record],

@@ -14,7 +14,7 @@ ghost use Rattle.nv_audit.specs.Resting.{AreAtRest, AreInodesAtRest, HasIndex, H
 
 use crate::held_shape::is_held_lawful;
 use crate::logged::Logged;
-use crate::pending::{listed, living, pending_by_slot};
+use crate::pending::{all_pending, listed, living};
 use crate::whole::counts_differ;
 use crate::{
     InHands, are_all_records_of, are_blocks_apart, are_lists_of, are_recorded, are_slots_of,
@@ -94,7 +94,7 @@ fn inodes_differ(
 {
     let snapshots = living(alloc, book)?;
     let deferred = listed(alloc, book.deferred())?;
-    let pending = pending_by_slot(alloc, cells.len(), &deferred, &hands.parts)?;
+    let pending = all_pending(alloc, cells.len(), &deferred, &hands.parts)?;
     let first = first_resting(alloc, cells, &snapshots, &pending)?;
     Ok(first)
 }

@@ -55,7 +55,7 @@ pub(crate) fn needed_parts(
     ensures { IfOk result (λ parts. parts.items
         ≡ needed_by snapshots.now logged.now.block logged.now.log) }
 {
-    let mut parts = Vec::new(alloc);
+    let mut parts = Vec::with_capacity(alloc, deaths.len())?;
     let mut rest = deaths;
     for entry in logged.log() {
         let (own, later) = rest.split_at(entry.item.part_count() as usize);

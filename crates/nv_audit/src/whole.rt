@@ -7,7 +7,7 @@ ghost use Rattle.nv_base.specs.declared.fault.MismatchPart.TheVariants.{Counts};
 ghost use Rattle.nv_audit.specs.Records.{states_of};
 ghost use Rattle.nv_audit.specs.Whole.{Agrees, CountsAgree, CountsAgreeBy, CountsAgreeWith, IsCountedWith, IsMismatch, device_with};
 
-use crate::pending::{listed, living, pending_by_slot};
+use crate::pending::{listed, living, pending_at, pending_by_slot};
 use crate::{
     Audited, InHands, InodePart, are_counted, are_free, are_names_of, are_pages_of, are_recorded,
     is_part_of,
@@ -106,14 +106,13 @@ fn first_different(
     Ok(first)
 }
 
-/// The first part of the first cell that differs, where each slot has a list of its pending parts.
+/// The first part of the first cell that differs, where these lists have the pending parts of each slot.
 fn first_with(
     alloc: Global,
     cells: &[InodeCell],
     snapshots: &[Epoch],
     pending: &[Vec<PartId>],
 ) -> Result<Option<MismatchPart>, Fault>
-    requires { length pending.now ≡ length cells.now }
     ensures ok { IfOk result (λ part. MatchOption part
         (CountsAgreeWith snapshots.now pending.now (states_of cells.now))
         (λ part. (part ≡ Counts)
@@ -121,7 +120,7 @@ fn first_with(
     ensures err { FailsOnly out_of_memory result }
 {
     for place in 0..cells.len() {
-        let differs = inode_differs(alloc, &cells[place], snapshots, &pending[place])?;
+        let differs = inode_differs(alloc, &cells[place], snapshots, pending_at(pending, place))?;
         if differs.is_some() {
             return Ok(differs);
         }

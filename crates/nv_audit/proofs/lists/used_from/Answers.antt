@@ -1,11 +1,11 @@
-use Rattle.std.proofs.Common.{◌≡◌, ◌<◌, ◌++◌, ℕ, List, length, arith, ap, ap₂, refl, sym, ◌∙◌}
+use Rattle.std.proofs.Common.{◌≡◌, ◌++◌, ℕ, List, ap, ap₂, refl, ◌∙◌}
+use Rattle.std.specs.Global.{Vec}
 use Rattle.nv_cell.specs.Cell.{CellState}
 use Rattle.nv_entry.specs.Held.{Retention}
 use Rattle.nv_entry.specs.declared.part.PartId.{PartId}
 use Rattle.nv_audit.specs.Lists.{used_by, used_from}
-use Rattle.nv_audit.specs.Pending.{pending_of, retention_by}
+use Rattle.nv_audit.specs.Pending.{parts_at, pending_of, retention_by}
 use Rattle.nv_audit.specs.Records.{states_of}
-use Rattle.nv_audit.proofs.PendingSlots.{list_here}
 use Rattle.nv_audit.proofs.Pushing.{step_at}
 use Rattle.nv_audit.proofs.States.{as_many, state_at}
 use Rattle.nv_audit.proofs.lists.used_from.Goals as goal
@@ -17,11 +17,8 @@ loop-place-preserved c =
     let snapshots = c.args.snapshots.now in
     let deferred = c.args.deferred.now in
     let hands = c.args.in_hands.now in
-    let lists = c.in_ok-pending.pending.items in
-    let within : i < length lists = omega (arith, c.loop-place-test.true, c.in_ok-pending.ensures.len) in
-    let pending : c.deref.result.now ≡ pending_of i deferred hands =
-    c.deref.ensures.value ∙ sym (list_here lists i c.index.result.now within c.index.ensures)
-    ∙ c.in_ok-pending.ensures.each i c.loop-place-test.true in
+    let pending : c.pending_at.result.now ≡ pending_of i deferred hands =
+    c.pending_at.ensures ∙ ap (λ (l : List (Vec PartId)). parts_at l i) c.deref.ensures.value ∙ c.in_ok-pending.ensures i c.loop-place-test.true in
     let same = ap₂ (λ (b : ℕ) (p : List PartId). let r : Retention = record { block = b; snapshots = snapshots; pending = p } in used_by r
     cell.state)
     c.block_bytes.ensures.value pending in

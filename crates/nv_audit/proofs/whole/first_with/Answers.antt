@@ -1,4 +1,4 @@
-use Rattle.std.proofs.Common.{◌≡◌, ℕ, ◌<◌, List, arith, length, subst, sym, ◌∙◌}
+use Rattle.std.proofs.Common.{◌≡◌, ℕ, List, subst, sym, ◌∙◌}
 use Rattle.nv_base.specs.declared.fault.MismatchPart.TheVariants.{Counts}
 use Rattle.nv_cell.specs.Cell.{CellState}
 use Rattle.nv_entry.specs.declared.part.PartId.{PartId}
@@ -7,7 +7,6 @@ use Rattle.nv_audit.specs.Records.{states_of}
 use Rattle.nv_audit.specs.Whole.{CountsAgreeWith, IsCountedWith}
 use Rattle.nv_audit.proofs.Differs.{agrees_if_none, differs_if_some}
 use Rattle.nv_audit.proofs.Loops.{one_more_at}
-use Rattle.nv_audit.proofs.PendingSlots.{list_here}
 use Rattle.nv_audit.proofs.States.{as_many, state_at}
 use Rattle.nv_audit.proofs.whole.first_with.Goals as goal
 
@@ -19,10 +18,8 @@ returns-then-is_some-clause-ok c =
     let i = c.loop-place.place in
     let cell = c.index-cells-place.result in
     let is = state_at c.args.cells.now i cell c.loop-place-test.true c.index-cells-place.is in
-    let within : i < length c.args.pending.now = omega (arith, c.loop-place-test.true, c.requires) in
-    let own : parts_at c.args.pending.now i ≡ c.deref.result.now =
-    list_here c.args.pending.now i c.index-pending-place.result within c.index-pending-place.is ∙ sym c.deref.ensures.value in
-    differs_if_some (counted c.deref.result.now cell.state) agree (λ p. (p ≡ Counts) × (¬ counted c.deref.result.now cell.state))
+    let own : parts_at c.args.pending.now i ≡ c.pending_at.result.now = sym c.pending_at.ensures in
+    differs_if_some (counted c.pending_at.result.now cell.state) agree (λ p. (p ≡ Counts) × (¬ counted c.pending_at.result.now cell.state))
     (λ p. (p ≡ Counts) × (¬ agree))
     c.in_ok-differs.differs (sym c.is_some.ensures ∙ c.if-is_some.true)
     (λ p told. (
@@ -39,12 +36,10 @@ loop-place-preserved c =
     let i = c.loop-place.place in
     let cell = c.index-cells-place.result in
     let is = state_at c.args.cells.now i cell c.loop-place-test.true c.index-cells-place.is in
-    let within : i < length c.args.pending.now = omega (arith, c.loop-place-test.true, c.requires) in
-    let own : parts_at c.args.pending.now i ≡ c.deref.result.now =
-    list_here c.args.pending.now i c.index-pending-place.result within c.index-pending-place.is ∙ sym c.deref.ensures.value in
+    let own : parts_at c.args.pending.now i ≡ c.pending_at.result.now = sym c.pending_at.ensures in
     one_more_at (λ (n : ℕ) (x : CellState). counted (parts_at c.args.pending.now n) x) states i cell.state
     (as_many c.args.cells.now i c.loop-place-test.true) is
     (subst (λ (ps : List PartId). counted ps cell.state) (sym own)
-    (agrees_if_none (counted c.deref.result.now cell.state) (λ p. (p ≡ Counts) × (¬ counted c.deref.result.now cell.state))
+    (agrees_if_none (counted c.pending_at.result.now cell.state) (λ p. (p ≡ Counts) × (¬ counted c.pending_at.result.now cell.state))
     c.in_ok-differs.differs (sym c.is_some.ensures ∙ c.if-is_some.false) c.in_ok-differs.ensures.ok))
     c.loop-place.invariant

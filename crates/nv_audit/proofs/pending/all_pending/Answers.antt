@@ -1,5 +1,5 @@
 use Rattle.nv_audit.proofs.PendingSlots.{all_pending}
-use Rattle.nv_audit.proofs.pending.pending_by_slot.Goals as goal
+use Rattle.nv_audit.proofs.pending.all_pending.Goals as goal
 
 pub returns : goal.returns
 returns c =

@@ -1,7 +1,7 @@
 use Rattle.std.proofs.Common.{◌≡◌, drop, map, reverse}
 use Rattle.nv_entry.specs.Log.{pairs}
 use Rattle.nv_audit.proofs.Covers.{AreCovers, death_of}
-use Rattle.nv_audit.proofs.deaths.deaths_in.Given as goal
+use Rattle.nv_audit.proofs.deaths.deaths_looked_up.Given as goal
 
 abbrev pub invariant-loop-place : goal.invariant-loop-place
 invariant-loop-place l = record {

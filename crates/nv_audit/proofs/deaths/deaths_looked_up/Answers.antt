@@ -3,7 +3,7 @@ use Rattle.nv_entry.specs.Log.{IsLog}
 use Rattle.nv_entry.specs.declared.item.Entry.{Entry}
 use Rattle.nv_audit.specs.Deaths.{Puts}
 use Rattle.nv_audit.proofs.Covers.{covers_none, covers_step, deaths_all, deaths_none, deaths_step}
-use Rattle.nv_audit.proofs.deaths.deaths_in.Goals as goal
+use Rattle.nv_audit.proofs.deaths.deaths_looked_up.Goals as goal
 
 pub loop-place-init : goal.loop-place-init
 loop-place-init c =
