@@ -21,45 +21,52 @@ pub(crate) enum Reservation {
 impl Reservation {
     /// What is ready begins the book's latest commit.
     pub(crate) fn begin(self, book: &Book) -> (Reservation, ())
+        requires { (ready : Ready) × (self ≡ Reservation.Ready ready) }
         ensures { (ready : Ready) → self ≡ Reservation.Ready ready
             → result.0 ≡ Reservation.Commit (begun (stamp_of book.now.state) ready) }
     {
-        match self {
-            Reservation::Ready(ready) => (Reservation::Commit(Commit::begin(ready, book)), ()),
-            other => (other, ()),
-        }
+        let Reservation::Ready(ready) = self else {
+            unreachable!()
+        };
+        (Reservation::Commit(Commit::begin(ready, book)), ())
     }
 
     /// What is ready is given up before its commit: the hand stays.
     pub(crate) fn give_up(self, none: ()) -> (Reservation, ())
+        requires { (ready : Ready) × (self ≡ Reservation.Ready ready) }
         ensures { (ready : Ready) → self ≡ Reservation.Ready ready
             → result.0 ≡ Reservation.Hand ready.hand }
     {
-        match self {
-            Reservation::Ready(ready) => (Reservation::Hand(ready.into_hand()), none),
-            other => (other, none),
-        }
+        let Reservation::Ready(ready) = self else {
+            unreachable!()
+        };
+        (Reservation::Hand(ready.into_hand()), none)
     }
 
     /// A commit is over: what it left in the hand stays.
     pub(crate) fn leave(self, none: ()) -> (Reservation, ())
-        requires { (commit : Commit) → self ≡ Reservation.Commit commit
+        requires there { (commit : Commit) × (self ≡ Reservation.Commit commit) }
+        requires over { (commit : Commit) → self ≡ Reservation.Commit commit
             → ((commit.published ≡ 0) ⊎ (commit.retired ≡ length commit.plans))
             × (commit.journal ≡ None) }
         ensures { (commit : Commit) → self ≡ Reservation.Commit commit
             → result.0 ≡ Reservation.Hand commit.hand }
     {
-        match self {
-            Reservation::Commit(commit) => (Reservation::Hand(commit.into_hand()), none),
-            other => (other, none),
-        }
+        let Reservation::Commit(commit) = self else {
+            unreachable!()
+        };
+        (Reservation::Hand(commit.into_hand()), none)
     }
 
     /// What is ready comes in the place of what is held, which is with its call.
     pub(crate) fn make_ready(self, ready: Ready) -> (Reservation, ())
+        requires { (hand : Hand) × (self ≡ Reservation.Hand hand) }
         ensures { result.0 ≡ Reservation.Ready ready }
     {
-        self.dismantle();
+        let Reservation::Hand(hand) = self else {
+            unreachable!()
+        };
+        hand.dismantle();
         (Reservation::Ready(ready), ())
     }
 
