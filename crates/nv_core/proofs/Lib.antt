@@ -21,6 +21,7 @@ pub mod Consistent
 pub mod Ends
 pub mod Enters
 pub mod Formats
+pub mod FreeSlots
 pub mod FreshBlocks
 pub mod FreshPages
 pub mod FreshTurns

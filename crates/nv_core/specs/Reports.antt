@@ -1,11 +1,11 @@
 -- What a world reports of its blocks and logs.
-use Rattle.std.specs.Prelude.{ℕ, ◌+◌, ◌-◌, ◌≤◌, drop, None, slice_index_or, ◌&&◌, if◌then◌else◌, Bool, true, false, is_some, List, [], ◌∷◌, ◌++◌, length, map, replicate, Option}
+use Rattle.std.specs.Prelude.{◌≡◌, ℕ, ◌+◌, ◌-◌, ◌<◌, ◌≤◌, drop, None, slice_index_or, ◌&&◌, if◌then◌else◌, Bool, true, false, is_some, List, [], ◌∷◌, ◌++◌, length, map, replicate, Option}
 use Rattle.std.specs.List.{range_with_len, sum_by}
 use Rattle.nv_alloc.specs.Block.{BlockValue, numbers_of}
 use Rattle.nv_alloc.specs.FreeList.{FreeBlocks}
 use Rattle.nv_alloc.specs.Runs.{free_runs_of}
 use Rattle.nv_alloc.specs.declared.runs.FreeRun.{FreeRun}
-use Rattle.nv_cell.specs.Cell.{CellState, log_of, mark_or_fresh}
+use Rattle.nv_cell.specs.Cell.{CellState, held_count, log_of, mark_or_fresh}
 use Rattle.nv_cell.specs.Numbers.{part_base}
 use Rattle.nv_cell.specs.Readers.{counts_of}
 use Rattle.nv_book.specs.Book.{BookState}
@@ -23,7 +23,7 @@ use Rattle.nv_core.specs.declared.reports.Space.{Space}
 use Rattle.nv_core.specs.declared.snaps.SnapCounts.{SnapCounts}
 use Rattle.nv_core.specs.declared.snaps.Snaps.{Snaps}
 use Rattle.nv_machine.specs.Held.{pending_in}
-use Rattle.nv_machine.specs.World.{Shared, World, cell_at}
+use Rattle.nv_machine.specs.World.{Shared, World, cell_at, owner_at}
 
 -- the free lists, CPU by CPU, as maximal runs
 abbrev pub lists_of : Shared → List (List FreeRun)
@@ -82,6 +82,11 @@ kept_among book (birth ∷ births) (mark ∷ marks) (block ∷ blocks) =
 -- the data blocks of a cell that a living snapshot holds or that are current
 abbrev pub kept_in : BookState → CellState → ℕ
 kept_in book cell = kept_among book (births (log_of cell)) cell.marks cell.blocks
+
+-- a slot whose lock nobody has keeps each data block that it has
+abbrev pub KeepsUnlocked : Shared → Type 0
+KeepsUnlocked s = (ino : ℕ) → ino < length s.cells → owner_at s ino ≡ None
+    → kept_in s.book (cell_at s ino) ≡ held_count (cell_at s ino).blocks
 
 -- the data blocks of one entry's parts that a living snapshot holds or that are current
 abbrev pub kept_at : BookState → CellState → ℕ → Entry → ℕ

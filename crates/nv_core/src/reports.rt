@@ -9,11 +9,12 @@ ghost use Rattle.nv_base.specs.declared.fault.Fault.TheVariants.{Stale};
 ghost use Rattle.nv_base.specs.Memory.{out_of_memory};
 ghost use Rattle.nv_machine.specs.Numbers.{all_blocks};
 ghost use Rattle.nv_machine.specs.World as machine;
+ghost use Rattle.nv_machine.specs.World.{cell_at};
 ghost use Rattle.nv_cell.specs.Cell.{log_of};
 ghost use Rattle.nv_cell.specs.Marks.{is_there};
 ghost use Rattle.nv_entry.specs.Covered.{part_count};
 ghost use Rattle.nv_book.specs.Records.{block_count, is_page};
-ghost use Rattle.nv_core.specs.Reports.{AddsUp, block_at, chain_in, counts_in, free_in, is_part_kept, kept_at, kept_in, data_kept, lists_of, log_at, mark_of, one_of, space_in, space_of};
+ghost use Rattle.nv_core.specs.Reports.{AddsUp, KeepsUnlocked, block_at, chain_in, counts_in, free_in, is_part_kept, kept_at, kept_in, data_kept, lists_of, log_at, mark_of, one_of, space_in, space_of};
 ghost use Rattle.nv_core.specs.Picked.{picked_at, picked_of};
 ghost use Rattle.nv_core.specs.Shown.{shared_of};
 ghost use Rattle.nv_alloc.specs.Numbers.{IsEachOnce};
@@ -59,7 +60,7 @@ pub struct LogCounts {
 
 impl World {
     /// Where the blocks are: no block is lost, and none is counted twice. Takes no memory, and time by all slots, by
-    /// the parts of all logs, and by the runs of deferred records.
+    /// the parts of the logs that are locked, and by the runs of deferred records.
     pub fn space(&self) -> Space
         // Blocks that are current or held count as such.
         // Blocks that are deferred or picked count apart.
@@ -115,12 +116,13 @@ impl Shared {
         requires few { picked ≤ 64 }
         requires pending { block_count self.now.book.state.deferred + picked
             ≤ data_kept (shared_of self.now) }
+        requires unlocked { KeepsUnlocked (shared_of self.now) }
         ensures { result ≡ space_in self.now.geometry.numbers.blocks
             (block_count self.now.book.state.deferred + picked) (shared_of self.now) }
     {
         let free = free_blocks(&self.lists);
         let chain = log_pages(&self.cells);
-        let kept = data_blocks(&self.cells, &self.book);
+        let kept = self.data_blocks();
         let pending = self.book.deferred_blocks() + picked;
         let data = kept - pending;
         let hand = self.geometry.numbers.blocks - free - chain - kept;
@@ -131,6 +133,35 @@ impl Shared {
             pending,
             hand,
         }
+    }
+
+    /// How many blocks the cells keep.
+    fn data_blocks(&self) -> u64
+        requires few { data_kept (shared_of self.now) < 2 ^ 64 }
+        requires unlocked { KeepsUnlocked (shared_of self.now) }
+        ensures { result ≡ data_kept (shared_of self.now) }
+    {
+        let mut count = 0;
+        for place in 0..self.cells.len() {
+            count += self.kept_in_slot(Ino::new(place as u64));
+        }
+        count
+    }
+
+    /// How many blocks the cell of a slot keeps: all that it has for its parts where nobody has locked it, and else what
+    /// a scan of its log tells.
+    fn kept_in_slot(&self, ino: Ino) -> u64
+        requires few { kept_in self.now.book.state (cell_at (shared_of self.now) ino) < 2 ^ 64 }
+        requires unlocked { KeepsUnlocked (shared_of self.now) }
+        ensures { result ≡ kept_in self.now.book.state (cell_at (shared_of self.now) ino) }
+    {
+        let Some(cell) = self.cell(ino) else {
+            return 0;
+        };
+        if self.is_locked(ino) {
+            return kept_blocks(cell, &self.book);
+        }
+        cell.blocks() - cell.log().blocks().len() as u64
     }
 }
 
@@ -223,18 +254,6 @@ fn log_pages(cells: &[InodeCell]) -> u64
     let mut count = 0;
     for cell in cells {
         count += cell.log().blocks().len() as u64;
-    }
-    count
-}
-
-/// How many blocks these cells keep.
-fn data_blocks(cells: &[InodeCell], book: &Book) -> u64
-    requires { sum_by (λ c. kept_in book.now.state c.state) cells.now < 2 ^ 64 }
-    ensures { result ≡ sum_by (λ c. kept_in book.now.state c.state) cells.now }
-{
-    let mut count = 0;
-    for cell in cells {
-        count += kept_blocks(cell, book);
     }
     count
 }

@@ -1,7 +1,7 @@
 use Rattle.std.proofs.Common.{◌≡◌, ◌∙◌, ℕ, List, ap, arith, map, refl, sym}
 use Rattle.std.specs.List.{sum_by}
 use Rattle.nv_cell.specs.Cell.{CellState, CellValue}
-use Rattle.nv_core.specs.Reports.{chain_in, free_in, kept_in}
+use Rattle.nv_core.specs.Reports.{chain_in, free_in}
 use Rattle.nv_core.proofs.Kept.{sum_states}
 use Rattle.nv_core.proofs.shared.Shared.space.Goals as goal
 
@@ -17,7 +17,7 @@ overflow_sub-hand-3 c =
       arith,
       c.free_blocks-free.ensures ∙ ap (sum_by free_in) c.deref.ensures.value,
       counted chain_in s.cells.items _ _ c.log_pages-chain.ensures c.deref-2.ensures.value,
-      counted (kept_in s.book.state) s.cells.items _ _ c.data_blocks-kept.ensures c.deref-3.ensures.value,
+      c.data_blocks-kept.ensures,
       c.requires.blocks,
     )
 
@@ -26,7 +26,7 @@ overflow_sub-data c =
     let s = c.args.self.now in
     omega (
       arith,
-      counted (kept_in s.book.state) s.cells.items _ _ c.data_blocks-kept.ensures c.deref-3.ensures.value,
+      c.data_blocks-kept.ensures,
       c.deferred_blocks.ensures.value,
       c.requires.pending,
     )
@@ -37,6 +37,6 @@ returns c =
     rw (
       c.free_blocks-free.ensures ∙ ap (sum_by free_in) c.deref.ensures.value,
       counted chain_in s.cells.items _ _ c.log_pages-chain.ensures c.deref-2.ensures.value,
-      counted (kept_in s.book.state) s.cells.items _ _ c.data_blocks-kept.ensures c.deref-3.ensures.value,
+      c.data_blocks-kept.ensures,
       c.deferred_blocks.ensures.value,
     ) refl

@@ -1,6 +1,7 @@
 use Rattle.std.proofs.Common.{◌∙◌, ◌+◌, List, ap, arith, length, subst, sym}
 use Rattle.std.specs.List.{sum_by}
 use Rattle.nv_core.proofs.AddedUp.{all_spaced, few_actors, pending_fits, space_shown, world_adds_up}
+use Rattle.nv_core.proofs.FreeSlots.{keeps_unlocked}
 use Rattle.nv_book.specs.Records.{block_count}
 use Rattle.nv_core.specs.Picked.{picked_of}
 use Rattle.nv_core.specs.Shown.{shared_of}
@@ -33,6 +34,11 @@ space-requires-clause-pending c =
     let w : WorldState = record { shared = c.self.inside.shared; actors = c.self.inside.actors.items } in
     pending_fits w c.picked_blocks-picked.result c.self.invariant.0
     (c.picked_blocks-picked.ensures.value ∙ ap (sum_by picked_of) c.deref.ensures.value)
+
+pub space-requires-clause-unlocked : goal.space-requires-clause-unlocked
+space-requires-clause-unlocked c =
+    let w : WorldState = record { shared = c.self.inside.shared; actors = c.self.inside.actors.items } in
+    keeps_unlocked w c.self.invariant.0
 
 pub returns-clause-places : goal.returns-clause-places
 returns-clause-places c m shows =
