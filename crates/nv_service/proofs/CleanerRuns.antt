@@ -1,6 +1,6 @@
 -- What a cleaner does behind its lock, as turns.
 use Rattle.std.proofs.Common.{◌≡◌, ◌∙◌, ◌⊎◌, inl, inr, ℕ, ◌+◌, ◌-◌, ◌<◌, ◌≤◌, ◌++◌, true, List, ap, arith, length, length-append, min, refl, subst, sym, take}
-use Rattle.std.specs.Prelude.{IfOk, IsErrAnd, OnOk, Result, Ok, Err}
+use Rattle.std.specs.Prelude.{IfOk, IsErrAnd, OnErr, OnOk, Result, Ok, Err}
 use Rattle.std.proofs.lemmas.Bool.{false≢true}
 use Rattle.std.proofs.lemmas.List.{length-take}
 use Rattle.nv_alloc.specs.Block.{BlockValue}
@@ -18,7 +18,8 @@ use Rattle.nv_machine.specs.Cleaning.{is_thorough}
 use Rattle.nv_machine.specs.World.{HandState, Running}
 use Rattle.nv_service.specs.Ending.{cleaner_of}
 use Rattle.nv_service.specs.Holding.{Holds, IsCleaned, IsToldFresh, once_asked, wanting}
-use Rattle.nv_service.specs.Refusing.{IsMisfit, MayRefuseSnapshotOrCleaner, snapshot_or_cleaner_faults}
+use Rattle.nv_service.specs.Refusing.{MayRefuseSnapshotOrCleaner, snapshot_or_cleaner_faults}
+use Rattle.nv_service.specs.SessionRuns.{IsBrokenOff}
 use Rattle.nv_steps.specs.Hands.{hand_of}
 use Rattle.nv_steps.specs.OnList.{FreshPages, IsTaking, IsTold, on_list, once_refused, with_taken}
 use Rattle.nv_steps.specs.Planning.{manner_of}
@@ -110,13 +111,20 @@ taking_may manner.Auto ino cell why p moves (inl short) =
     one_of (snapshot_or_cleaner_faults (cleaner_of manner.Auto ino)) why fault.NoSpace fault.NoSpace (1, omega arith, refl)
     (1, omega arith, refl) (inl short)
 
+-- a list that is not at home on its CPU is not that which is asked
+pub mislaid_here : {A : Type 0} (result : Result A Fault) (numbers : GeometryNumbers) (cpu asked : ℕ) (list : FreeBlocks) → cpu ≡ asked
+    → OnErr result (¬ IsHomeList numbers cpu list) → OnErr result ((other : FreeBlocks) × (¬ IsHomeList numbers asked other))
+mislaid_here (Ok done) numbers cpu asked list is away = tt
+mislaid_here (Err why) numbers cpu asked list is away = (list, subst (λ (n : ℕ). ¬ IsHomeList numbers n list) is away)
+
 -- ---- exits
 
 pub misfit_exit : (numbers : GeometryNumbers) (actor : ℕ) (h0 : HandState) (r0 : Running) (h : HandState) (result : Result Cleaned Fault)
-    (why : Fault) → IsErrAnd result (λ f. f ≡ why) → IsMisfit why → IsCleaned numbers actor h0 r0 result h
-misfit_exit numbers actor h0 r0 h result why is misfit =
+    (why : Fault) (what : MismatchPart) → IsErrAnd result (λ f. f ≡ why) → why ≡ fault.Mismatch what
+    → IsBrokenOff numbers actor h0 r0 what → IsCleaned numbers actor h0 r0 result h
+misfit_exit numbers actor h0 r0 h result why what is wrong broken =
     subst (λ (x : Result Cleaned Fault). IsCleaned numbers actor h0 r0 x h) (sym (exit_is result why is))
-    (breaks numbers actor h0 r0 why misfit.0 h misfit.1)
+    (breaks numbers actor h0 r0 why what h wrong broken)
 
 pub refused_exit : (numbers : GeometryNumbers) (actor : ℕ) (h0 : HandState) (r0 : Running) (h : HandState) (result : Result Cleaned Fault)
     (why : Fault) → IsErrAnd result (λ f. f ≡ why) → IsCleaned numbers actor h0 r0 (Err why) h → IsCleaned numbers actor h0 r0 result h
@@ -126,8 +134,8 @@ refused_exit numbers actor h0 r0 h result why is cleaned =
 pub short_exit : (numbers : GeometryNumbers) (actor : ℕ) (h0 : HandState) (r0 : Running) (ino : ℕ) (known : Known CellState) (h : HandState)
     (r : Running) (why : Fault) (p : MismatchPart) → (why ≡ fault.NoSpace) ⊎ (why ≡ fault.Mismatch p)
     → (why ≡ fault.NoSpace → Holds numbers actor h0 r0 ino known h (once_refused fault.NoSpace r))
-    → IsCleaned numbers actor h0 r0 (Err why) h
-short_exit numbers actor h0 r0 ino known h r why p (inr wrong) holds = breaks numbers actor h0 r0 why p h wrong
-short_exit numbers actor h0 r0 ino known h r why p (inl short) holds =
+    → (why ≡ fault.Mismatch p → IsBrokenOff numbers actor h0 r0 p) → IsCleaned numbers actor h0 r0 (Err why) h
+short_exit numbers actor h0 r0 ino known h r why p (inr wrong) holds broken = breaks numbers actor h0 r0 why p h wrong (broken wrong)
+short_exit numbers actor h0 r0 ino known h r why p (inl short) holds broken =
     subst (λ (f : Fault). IsCleaned numbers actor h0 r0 (let e : Result Cleaned Fault = Err f in e) h) (sym short)
-    (refuses numbers actor h0 r0 ino known h r fault.NoSpace (holds short))
+    (refuses numbers actor h0 r0 ino known h r fault.NoSpace (λ what is. cc) (holds short))

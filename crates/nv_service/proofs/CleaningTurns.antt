@@ -1,5 +1,5 @@
 -- The turns of a cleaner: its lock, what its planning refuses it for, and its end.
-use Rattle.std.proofs.Common.{◌≡◌, ◌∙◌, ◌⊎◌, inl, inr, ℕ, ◌<◌, ◌≤◌, Bool, true, false, List, [], ◌∷◌, Option, None, ap, arith, cond, length, refl, subst, sym, nat_lt}
+use Rattle.std.proofs.Common.{◌≡◌, ◌≢◌, ◌∙◌, ◌⊎◌, inl, inr, ℕ, ◌<◌, ◌≤◌, Bool, true, false, List, [], ◌∷◌, Option, None, ap, arith, cond, length, refl, subst, sym, nat_lt}
 use Rattle.std.specs.Prelude.{Result, Ok, Err}
 use Rattle.std.proofs.lemmas.Bool.{le-ltb, lt-ltb}
 use Rattle.nv_alloc.specs.Block.{BlockValue}
@@ -25,7 +25,7 @@ use Rattle.nv_machine.proofs.FiledTurns.{refused_at_once}
 use Rattle.nv_service.specs.Ending.{IsEmptyHand, cleaner_of}
 use Rattle.nv_service.specs.Holding.{Holds, IsCleaned}
 use Rattle.nv_service.specs.RunCalls.{cleaning, planning}
-use Rattle.nv_service.specs.SessionRuns.{IsSessionRun}
+use Rattle.nv_service.specs.SessionRuns.{IsBrokenOff, IsSessionRun}
 use Rattle.nv_service.specs.Underway.{GivesBack, UnlocksNext, locking}
 use Rattle.nv_steps.specs.Hands.{hand_of}
 use Rattle.nv_steps.specs.LastSteps.{IsLast}
@@ -40,7 +40,7 @@ use Rattle.nv_steps.specs.declared.planning.Manner.TheVariants as manner
 use Rattle.nv_steps.specs.declared.planning.Planned.{Planned}
 use Rattle.nv_steps.specs.declared.planning.Planned.TheVariants as planned
 use Rattle.nv_steps.proofs.States.{some_state}
-use Rattle.nv_service.proofs.Holding.{begins, broken, changes, locks, reads, unlocks}
+use Rattle.nv_service.proofs.Holding.{begins, changes, locks, reads, unlocks}
 
 -- ---- its start
 
@@ -108,6 +108,11 @@ plan_refuses numbers actor m ino cell h after why inside moves =
       go s true is =
           let same : out_of_memory ∷ [] ≡ why ∷ [] = ap fault_in is in let wanted : why ≡ out_of_memory = cc in inr wanted
 
+-- so no test does
+pub not_misfit : (why : Fault) → (why ≡ fault.Stale) ⊎ (why ≡ out_of_memory) → (what : MismatchPart) → why ≢ fault.Mismatch what
+not_misfit why (inl stale) what is = let no : fault.Stale ≡ fault.Mismatch what = sym stale ∙ is in cc
+not_misfit why (inr wanted) what is = let no : out_of_memory ≡ fault.Mismatch what = sym wanted ∙ is in cc
+
 module _ (numbers : GeometryNumbers) (actor : ℕ) (h0 : HandState) (r0 : Running) (m : Manner) (ino : ℕ) (seen old : CellState)
     (h after : HandState) (here : seen ≡ old) (holds : Holds numbers actor h0 r0 ino Unseen h (planning m ino)) where
   reading : (next : Running) (granted : Bool) → next.slots ≡ ino ∷ []
@@ -152,13 +157,15 @@ module _ (numbers : GeometryNumbers) (actor : ℕ) (h0 : HandState) (r0 : Runnin
       (changes numbers actor h0 r0 ino (LeftAs old) old h after r (once_ending (Cleans cleaned) r) true refl refl holds.slots holds new refl moves)
 
   pub refuses : (ino : ℕ) (known : Known CellState) (h : HandState) (r : Running) (why : Fault)
-      → Holds numbers actor h0 r0 ino known h (once_ending (Refuses why) r) → IsCleaned numbers actor h0 r0 (Err why) h
-  refuses ino known h r (fault.Mismatch part) holds = broken numbers actor h0 r0
-  refuses ino known h r other holds = (r, unlocks numbers actor h0 r0 ino known h r (Refuses other) (λ is. cc) holds)
+      → ((what : MismatchPart) → why ≢ fault.Mismatch what) → Holds numbers actor h0 r0 ino known h (once_ending (Refuses why) r)
+      → IsCleaned numbers actor h0 r0 (Err why) h
+  refuses ino known h r (fault.Mismatch what) fits holds = absurd (fits what refl)
+  refuses ino known h r other fits holds = (r, unlocks numbers actor h0 r0 ino known h r (Refuses other) (λ is. cc) holds)
 
-  pub breaks : (why : Fault) (part : MismatchPart) (h : HandState) → why ≡ fault.Mismatch part → IsCleaned numbers actor h0 r0 (Err why) h
-  breaks why part h is =
-      subst (λ (f : Fault). IsCleaned numbers actor h0 r0 (let e : Result Cleaned Fault = Err f in e) h) (sym is) (broken numbers actor h0 r0)
+  pub breaks : (why : Fault) (what : MismatchPart) (h : HandState) → why ≡ fault.Mismatch what → IsBrokenOff numbers actor h0 r0 what
+      → IsCleaned numbers actor h0 r0 (Err why) h
+  breaks why what h is broken =
+      subst (λ (f : Fault). IsCleaned numbers actor h0 r0 (let e : Result Cleaned Fault = Err f in e) h) (sym is) broken
 
   -- what is in its hand went back
   module _ (h : HandState) (r : Running) (back : GivesBack numbers actor h0 r0 left_in.Nothing h r) where
@@ -184,16 +191,10 @@ module _ (numbers : GeometryNumbers) (actor : ℕ) (h0 : HandState) (r0 : Runnin
   pub refused_run : (h after : HandState) (why : Fault) → IsCleaned numbers actor h0 r0 (Err why) h
       → ((r : Running) → UnlocksNext numbers actor h0 r0 h r → GivesBack numbers actor h0 r0 left_in.Nothing after r)
       → IsSessionRun numbers actor h0 r0 (Err why) after
-  refused_run h after (fault.Mismatch part) is back = broken numbers actor h0 r0
+  refused_run h after (fault.Mismatch what) is back = inl is
   refused_run h after other is back =
       ends_so after (once_ending (Refuses other) is.0) (back (once_ending (Refuses other) is.0) is.1) (Refuses other) (Err other) refl
       (λ last. last)
-
-  pub misfit_run : (result : Result Answer Fault) (why : Fault) (part : MismatchPart) (after : HandState) → result ≡ Err why
-      → why ≡ fault.Mismatch part → IsSessionRun numbers actor h0 r0 result after
-  misfit_run result why part after told is =
-      subst (λ (e : Result Answer Fault). IsSessionRun numbers actor h0 r0 e after)
-      (sym (told ∙ ap (λ (f : Fault). let e : Result Answer Fault = Err f in e) is)) (broken numbers actor h0 r0)
 
   -- by the number of the seat, with nothing in the hand
   pub seated : (number : ℕ) (result told : Result Answer Fault) (after : HandState) → actor ≡ number → after ≡ empty_hand → told ≡ result

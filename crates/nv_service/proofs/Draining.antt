@@ -7,24 +7,26 @@ use Rattle.nv_alloc.specs.Block.{BlockValue}
 use Rattle.nv_alloc.specs.declared.hand.Hand.{Hand}
 use Rattle.nv_base.specs.Memory.{out_of_memory}
 use Rattle.nv_base.specs.declared.fault.Fault.{Fault}
+use Rattle.nv_base.specs.declared.fault.Fault.TheVariants as fault
+use Rattle.nv_base.specs.declared.fault.MismatchPart.{MismatchPart}
 use Rattle.nv_base.specs.declared.geometry.GeometryNumbers.{GeometryNumbers}
 use Rattle.nv_book.specs.Book.{BookState, after_pick}
 use Rattle.nv_book.specs.declared.record.Record.{Record}
 use Rattle.nv_calls.specs.declared.answer.Answer.{Answer}
 use Rattle.nv_calls.specs.declared.answer.Answer.TheVariants as answers
 use Rattle.nv_cell.specs.Cell.{CellState}
-use Rattle.nv_machine.specs.Kinds.{grown, refuse}
+use Rattle.nv_machine.specs.Kinds.{grown}
 use Rattle.nv_machine.specs.SnapshotOrCleaner.{is_first, lock_picked_turn, one_more, picked_turn}
 use Rattle.nv_machine.specs.Step.{turn}
-use Rattle.nv_machine.specs.World.{Draining, Drains, Ending, Ends, HandState, LockPicked, Moves, Next, Pick, Release, Running, Shared, SnapshotOrCleaner, Turn, Waits, empty_hand, go_to, owner_at, with_book, with_owner}
+use Rattle.nv_machine.specs.World.{Draining, Drains, Ending, Ends, HandState, LockPicked, Moves, Next, Pick, Release, Running, Shared, SnapshotOrCleaner, Turn, Waits, empty_hand, go_to, owner_at, with_owner}
 use Rattle.nv_machine.proofs.FiledTurns.{refused_at_once}
 use Rattle.nv_steps.specs.Hands.{hand_of}
 use Rattle.nv_steps.specs.LastSteps.{IsDrained, IsLast, once_drained}
 use Rattle.nv_steps.specs.OnBook.{IsBefore, IsPickTurn, drain_of, on_book, once_picked, was_granted}
 use Rattle.nv_steps.specs.OnCell.{IsHolding, on_cell, once_ending}
 use Rattle.nv_steps.specs.Parts.{BookIs, CellIs, HolderIs, OwnerIs}
-use Rattle.nv_steps.specs.Runs.{Fits, IsAsLeft, IsOwn, IsRun, Known, Unheld, Unseen, known_book, known_cell}
-use Rattle.nv_steps.specs.Turns.{IsEnd, IsMove, Made}
+use Rattle.nv_steps.specs.Runs.{Fits, IsAsLeft, IsOwn, IsRun, Known, Leads, Unheld, Unseen, known_cell}
+use Rattle.nv_steps.specs.Turns.{IsMove, Made}
 use Rattle.nv_steps.specs.declared.lists.LeftInHand.TheVariants as left_in
 use Rattle.nv_steps.specs.declared.picks.Picked.{Picked}
 use Rattle.nv_steps.specs.declared.picks.Picked.TheVariants as pick
@@ -36,9 +38,12 @@ use Rattle.nv_service.specs.Draining.{CanReleasePicked, EndsPick, GoesOn, HasDra
 use Rattle.nv_service.specs.Ending.{IsEmptyHand}
 use Rattle.nv_service.specs.Refusing.{IsMisfitOrWant}
 use Rattle.nv_service.specs.RunCalls.{making, told_as}
-use Rattle.nv_service.specs.SessionRuns.{IsSessionRun}
+use Rattle.nv_service.specs.Misfits.{TakesMisfit}
+use Rattle.nv_service.specs.SessionRuns.{IsGivingRun, IsSessionRun}
+use Rattle.nv_service.specs.Sessions.{HeldValue}
 use Rattle.nv_service.specs.declared.seen.Seen.{Seen}
 use Rattle.nv_service.specs.Underway.{GivesBack, HasCome, UnlocksNext, locking}
+use Rattle.nv_service.proofs.Holding.{breaks_run, broken}
 
 -- ---- what the turn of a pick tells
 
@@ -315,6 +320,15 @@ module _ (numbers : GeometryNumbers) (actor : ℕ) (h0 : HandState) (r0 : Runnin
       drains_on first r released left (subst (λ (x : HandState). GivesBack numbers actor h0 r0 left_in.Nothing x q) empty (gives q w))
   gives_back (pick.Ends told) r released left h after empty gives w = w
 
+  -- what it picks does not fit: so a test breaks it off
+  pub breaks_pick : (hand : Hand) (r : Running) (what : MismatchPart) (why : Fault) → hand_of hand ≡ empty_hand
+      → HasCome numbers actor h0 r0 empty_hand r → TakesMisfit numbers actor hand r what → why ≡ fault.Mismatch what
+      → IsSessionRun numbers actor h0 r0 (Err why) empty_hand
+  breaks_pick hand r what why empty w misfit is =
+      breaks_run numbers actor h0 r0 empty_hand what why is
+      (broken numbers actor h0 r0 w.turns hand r what (subst (λ (h : HandState). Leads numbers actor h0 r0 w.turns h r) (sym empty) w.leads)
+      misfit)
+
   -- a drain that ended at its pick is a run, which no part broke off
   pub ends_so : (told : Result Answer Fault) (h : HandState) (released : ℕ)
       → ((told ≡ Ok (answers.Count released)) ⊎ (told ≡ Err out_of_memory)) → IsRun numbers actor h0 r0 told h
@@ -374,9 +388,8 @@ want_told told released (inl is) = subst (λ (t : Result Answer Fault). IfErr t 
 want_told told released (inr is) = subst (λ (t : Result Answer Fault). IfErr t IsMisfitOrWant) (sym is) (inr refl)
 
 -- a refused call of a session is told so
-pub exits_run : (numbers : GeometryNumbers) (actor : ℕ) (r call : Running) (result : Result Seen Fault) (why : Fault) → r ≡ call
-    → result ≡ Err why → IsSessionRun numbers actor empty_hand r (Err why) empty_hand
-    → IsSessionRun numbers actor empty_hand call (told_as result) empty_hand
-exits_run numbers actor r call result why starts is run =
-    subst (λ (end : Result Seen Fault). IsSessionRun numbers actor empty_hand call (told_as end) empty_hand) (sym is)
-    (subst (λ (q : Running). IsSessionRun numbers actor empty_hand q (Err why) empty_hand) starts run)
+pub exits_run : (numbers : GeometryNumbers) (actor : ℕ) (r call : Running) (held : HeldValue) (result : Result Seen Fault) (why : Fault)
+    → r ≡ call → result ≡ Err why → IsGivingRun numbers actor r held (Err why) → IsGivingRun numbers actor call held (told_as result)
+exits_run numbers actor r call held result why starts is run =
+    subst (λ (end : Result Seen Fault). IsGivingRun numbers actor call held (told_as end)) (sym is)
+    (subst (λ (q : Running). IsGivingRun numbers actor q held (Err why)) starts run)

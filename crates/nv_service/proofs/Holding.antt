@@ -1,18 +1,28 @@
 -- Turns of a call that holds one slot.
-use Rattle.std.proofs.Common.{◌≡◌, ◌≢◌, ◌∙◌, ℕ, ◌<◌, ◌==◌, Bool, true, List, [], ◌∷◌, Some, None, ap, arith, length, refl, subst, sym, cond}
+use Rattle.std.proofs.Common.{◌≡◌, ◌≢◌, ◌∙◌, ℕ, ◌<◌, ◌==◌, Bool, true, List, [], ◌∷◌, Some, None, ap, arith, inl, length, refl, subst, sym, cond}
 use Rattle.std.proofs.lemmas.Bool.{eq-eqb, ne_eqb}
 use Rattle.nv_alloc.specs.FreeList.{FreeBlocks, IsHomeList}
+use Rattle.std.specs.Prelude.{Err, Result}
+use Rattle.nv_alloc.specs.declared.hand.Hand.{Hand}
+use Rattle.nv_base.specs.declared.fault.Fault.{Fault}
+use Rattle.nv_base.specs.declared.fault.Fault.TheVariants as fault
+use Rattle.nv_base.specs.declared.fault.MismatchPart.{MismatchPart}
+use Rattle.nv_base.specs.declared.fault.MismatchPart.TheVariants as part
 use Rattle.nv_base.specs.declared.geometry.GeometryNumbers.{GeometryNumbers}
+use Rattle.nv_calls.specs.declared.answer.Answer.{Answer}
 use Rattle.nv_cell.specs.Cell.{CellState}
 use Rattle.nv_machine.specs.World.{BoundAnew, Ending, HandState, Running}
 use Rattle.nv_service.specs.Holding.{Holds, once_asked, wanting}
-use Rattle.nv_service.specs.SessionRuns.{IsBrokenOff}
+use Rattle.nv_service.specs.Misfits.{TakesMisfit}
+use Rattle.nv_service.specs.SessionRuns.{IsBrokenOff, IsGivingRun, IsSessionRun, KeepsSome}
+use Rattle.nv_service.specs.Sessions.{HeldValue}
 use Rattle.nv_service.specs.Underway.{HasCome, UnlocksNext, locking}
 use Rattle.nv_steps.specs.OnCell.{on_cell, once_ending, over_cell}
 use Rattle.nv_steps.specs.OnList.{FreshPages, IsTaking, on_list}
 use Rattle.nv_steps.specs.Parts.{CellIs, ListIs, OwnerIs}
-use Rattle.nv_steps.specs.Runs.{IsAsLeft, IsOwn, Known, LeftAs, Unheld, Unseen, held, known_cell, left_or_found, locked, seen}
-use Rattle.nv_steps.specs.Turns.{IsMove}
+use Rattle.nv_steps.specs.Hands.{hand_of}
+use Rattle.nv_steps.specs.Runs.{IsAsLeft, IsOwn, Known, LeftAs, Leads, Unheld, Unseen, held, known_cell, left_or_found, locked, seen}
+use Rattle.nv_steps.specs.Turns.{IsMove, Made}
 use Rattle.nv_steps.specs.declared.lists.Taken.{Taken}
 use Rattle.nv_steps.specs.declared.lists.Taken.TheVariants as taken
 use Rattle.nv_steps.proofs.States.{some_state}
@@ -142,9 +152,23 @@ module _ (numbers : GeometryNumbers) (actor : ℕ) (h0 : HandState) (r0 : Runnin
     book = holds.book;
   }
 
--- a call that was broken off
-pub broken : (numbers : GeometryNumbers) (actor : ℕ) (h0 : HandState) (r0 : Running) → IsBrokenOff numbers actor h0 r0
-broken numbers actor h0 r0 = record { turns = []; hand = h0; running = r0; leads = (refl, refl) }
+-- what the next step of a call takes does not fit it: so a test breaks the call off
+pub broken : (numbers : GeometryNumbers) (actor : ℕ) (h0 : HandState) (r0 : Running) (turns : List Made) (hand : Hand) (r : Running)
+    (what : MismatchPart) → Leads numbers actor h0 r0 turns (hand_of hand) r → TakesMisfit numbers actor hand r what
+    → IsBrokenOff numbers actor h0 r0 what
+broken numbers actor h0 r0 turns hand r what leads misfit =
+    record { turns = turns; hand = hand; running = r; leads = leads; misfit = misfit }
+
+-- so it is refused
+pub breaks_run : (numbers : GeometryNumbers) (actor : ℕ) (h0 : HandState) (r0 : Running) (h : HandState) (what : MismatchPart) (why : Fault)
+    → why ≡ fault.Mismatch what → IsBrokenOff numbers actor h0 r0 what → IsSessionRun numbers actor h0 r0 (Err why) h
+breaks_run numbers actor h0 r0 h what why is broken =
+    subst (λ (f : Fault). IsSessionRun numbers actor h0 r0 (Err f) h) (sym is) (inl broken)
+
+-- a call whose hand keeps some of what it gives back is refused so
+pub keeps : (numbers : GeometryNumbers) (actor : ℕ) (r0 : Running) (held : HeldValue) (result : Result Answer Fault) (why : Fault)
+    → result ≡ Err why → why ≡ fault.Mismatch part.Lists → KeepsSome held → IsGivingRun numbers actor r0 held result
+keeps numbers actor r0 held result why told is kept = inl (kept, told ∙ ap (λ (f : Fault). Err f) is)
 
 -- a call that starts
 pub begins : (numbers : GeometryNumbers) (actor : ℕ) (h0 : HandState) (r0 : Running) → HasCome numbers actor h0 r0 h0 r0

@@ -8,6 +8,7 @@ mod FirstHomes
 mod Found
 pub mod Giving
 pub mod Holding
+pub mod Keeping
 pub mod ListCells
 pub mod TakenCells
 pub mod Misnamed

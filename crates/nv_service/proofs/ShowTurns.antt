@@ -2,7 +2,7 @@
 use Rattle.std.proofs.Common.{◌≡◌, ◌∙◌, ◌<◌, ◌==◌, ◌||◌, ◌⊎◌, if◌then◌else◌, ℕ, zero, suc, Bool, true, false, List, [], ◌∷◌, Option, Some, None, ap, arith, inl, inr, refl, subst, sym, true≢false}
 use Rattle.std.specs.Prelude.{Contains, IfErr, IfOk, Result, Ok, Err}
 use Rattle.std.specs.List.{AllByRecursion}
-use Rattle.std.proofs.lemmas.Bool.{eq-eqb, eqb-true}
+use Rattle.std.proofs.lemmas.Bool.{eq-eqb, eqb-true, false≢true}
 use Rattle.nv_base.specs.Memory.{out_of_memory}
 use Rattle.nv_base.specs.Refusals.{FailsOnly}
 use Rattle.nv_base.specs.declared.fault.Fault.{Fault}
@@ -29,13 +29,15 @@ use Rattle.nv_reader.specs.Walk.{Visit}
 use Rattle.nv_steps.specs.OnBook.{answer_of_show, on_book, once_pinned}
 use Rattle.nv_steps.specs.Parts.{BookIs, HolderIs}
 use Rattle.nv_steps.specs.Reading.{once_shown, reading, unlocked}
-use Rattle.nv_steps.specs.Runs.{Fits, IsAsLeft, IsOwn, IsRun, Known, Leads, Unheld, known_book, known_cell, locked, seen}
+use Rattle.nv_steps.specs.Runs.{Fits, IsAsLeft, IsOwn, Known, Leads, Unheld, known_book, known_cell, locked, seen}
 use Rattle.nv_steps.specs.Turns.{Made}
 use Rattle.nv_steps.proofs.OneTurn.{book_there, one_turn}
 use Rattle.nv_steps.proofs.VisitTurns.{shows}
 use Rattle.nv_service.specs.Refusing.{IsMisfit, IsMisfitOrWant}
-use Rattle.nv_service.specs.ShowRuns.{AreAllVisits, AreVisits, FindsCell, FoundWhole, IsPinTurn, IsShowRun, IsUnpinTurn, IsVisit, VisitAll, Visited, showing}
-use Rattle.nv_service.proofs.ViewRuns.{cell_there}
+use Rattle.nv_service.specs.Misfits.{Unpinnable}
+use Rattle.nv_service.specs.ShowRuns.{AreAllVisits, AreVisits, Displaced, FindsCell, FindsPin, FindsUnpin, FoundWhole, HasMet, IsMarked, IsMisfitVisit, IsPinTurn, IsShowRun, IsShownBy, IsUnpinTurn, IsVisit, Met, NoNode, NoSlot, SeesCell, Visited, showing}
+use Rattle.nv_service.proofs.Holding.{broken}
+use Rattle.nv_service.proofs.ViewRuns.{cell_there, no_hand}
 
 -- ---- a visit
 
@@ -72,53 +74,92 @@ module _ (numbers : GeometryNumbers) (snapshot : ℕ) (before : Showing) (cell :
             if b then node_at (bytes_among cell.state.blocks) cell.state.block snapshot (log_of cell.state) else None) alike))) tt;
       }
 
-  -- what a visit comes to that was refused
-  pub wants : (result : Result Showing Fault) (why : Fault) → result ≡ Err why → why ≡ out_of_memory → FindsCell numbers snapshot before result
+  -- one that wanted memory, or saw the node
+  pub wants : (result : Result Showing Fault) (why : Fault) → result ≡ Err why → why ≡ out_of_memory
+      → SeesCell numbers snapshot before cell result
   wants result why is none =
-      subst (FindsCell numbers snapshot before) (sym (is ∙ ap (λ (f : Fault). Err f) none)) (cell, wants_memory)
+      subst (SeesCell numbers snapshot before cell) (sym (is ∙ ap (λ (f : Fault). Err f) none)) wants_memory
 
   pub finds : (node : NodeCopy) (result : Result Showing Fault) → (visited before.visits).generation ≡ cell.state.generation
       → Some node ≡ own_node cell.state (up_to snapshot (log_of cell.state))
       → ((bytes : ℕ → List ℕ) → AreBytesOf cell.state bytes → NoneOut cell.state (up_to snapshot (log_of cell.state))
       → Some node ≡ node_at bytes cell.state.block snapshot (log_of cell.state))
       → IfOk result (λ after. after ≡ seen_on (Some node) before) → FailsOnly out_of_memory result
-      → FindsCell numbers snapshot before result
+      → SeesCell numbers snapshot before cell result
   finds node (Ok after) same own whole is err =
-      (cell, sees_node node after same own (λ there. whole (bytes_among cell.state.blocks) there.own there.pages) is)
+      sees_node node after same own (λ there. whole (bytes_among cell.state.blocks) there.own there.pages) is
   finds node (Err why) same own whole is err = wants (Err why) why refl err
 
-  pub marks : (result : Result Showing Fault) (why : Fault) → result ≡ Err why → IsMisfitOrWant why → FindsCell numbers snapshot before result
-  marks result why is (inl misfit) =
-      subst (FindsCell numbers snapshot before) (sym (is ∙ ap (λ (f : Fault). Err f) misfit.1)) tt
-  marks result why is (inr none) = wants result why is none
+  -- it found the cell
+  pub found : (met : ℕ → Type 0) (result : Result Showing Fault) → SeesCell numbers snapshot before cell result
+      → FindsCell numbers snapshot met before result
+  found met (Ok after) is = (cell, is)
+  found met (Err (fault.Mismatch what)) is = NoNode cell.state is.0 is.1
+  found met (Err other) is = (cell, is)
 
--- a part that does not fit ends a visit
-pub misfits : (numbers : GeometryNumbers) (snapshot : ℕ) (before : Showing) (result : Result Showing Fault) (why : Fault) (p : MismatchPart)
-    → result ≡ Err why → why ≡ fault.Mismatch p → FindsCell numbers snapshot before result
-misfits numbers snapshot before result why p is wrong =
-    subst (FindsCell numbers snapshot before) (sym (is ∙ ap (λ (f : Fault). Err f) wrong)) tt
+  -- or its slot was visited before
+  pub marks : (met : ℕ → Type 0) (result : Result Showing Fault) (why : Fault) → result ≡ Err why
+      → ((why ≡ fault.Mismatch part.Names) × met (visited before.visits).ino) ⊎ (why ≡ out_of_memory)
+      → FindsCell numbers snapshot met before result
+  marks met result why is (inl again) =
+      subst (FindsCell numbers snapshot met before) (sym (is ∙ ap (λ (f : Fault). Err f) again.0)) (Met again.1 refl)
+  marks met result why is (inr none) = found met result (wants result why is none)
+
+-- a test breaks a visit off
+pub breaks_visit : (numbers : GeometryNumbers) (snapshot : ℕ) (met : ℕ → Type 0) (before : Showing) (result : Result Showing Fault)
+    (why : Fault) (what : MismatchPart) → result ≡ Err why → why ≡ fault.Mismatch what → IsMisfitVisit numbers snapshot met before what
+    → FindsCell numbers snapshot met before result
+breaks_visit numbers snapshot met before result why what is wrong misfit =
+    subst (FindsCell numbers snapshot met before) (sym (is ∙ ap (λ (f : Fault). Err f) wrong)) misfit
+
+-- what was visited before was so where more was
+also_met : (numbers : GeometryNumbers) (snapshot : ℕ) (met more : ℕ → Type 0) (before : Showing) (what : MismatchPart)
+    → ((ino : ℕ) → met ino → more ino) → IsMisfitVisit numbers snapshot met before what → IsMisfitVisit numbers snapshot more before what
+also_met numbers snapshot met more before what all (NoSlot out is) = NoSlot out is
+also_met numbers snapshot met more before what all (Displaced place away is) = Displaced place away is
+also_met numbers snapshot met more before what all (Met again is) = Met (all (visited before.visits).ino again) is
+also_met numbers snapshot met more before what all (NoNode cell none is) = NoNode cell none is
+
+-- where there are no marks, none is set
+pub unmarked : (marks : List Bool) (ino : ℕ) → marks ≡ [] → IsMarked marks ino → ⊥
+unmarked marks ino none is =
+    let no : IsMarked [] ino = subst (λ (ms : List Bool). IsMarked ms ino) none is in absurd (false≢true no)
 
 -- ---- all visits
 
 module _ (numbers : GeometryNumbers) (snapshot : ℕ) (first : Showing) where
-  -- those of a show that goes on
-  abbrev pub HasCome : Showing → Type 0
-  HasCome last = (visits : List Visited) × AreVisits numbers snapshot first visits last
+  -- those of a show that goes on, where no other slots are marked
+  abbrev pub HasCome : (ℕ → Type 0) → Showing → Type 0
+  HasCome met last = (visits : List Visited) × AreVisits numbers snapshot first visits last × ((ino : ℕ) → met ino → HasMet visits ino)
 
-  pub goes : (last after : Showing) → HasCome last → FindsCell numbers snapshot last (Ok after) → HasCome after
-  goes last after come found = (record { before = last; cell = found.0 } ∷ come.0, (come.1, found.1))
+  pub goes : (met more : ℕ → Type 0) (last after : Showing) → HasCome met last → FindsCell numbers snapshot met last (Ok after)
+      → ((ino : ℕ) → more ino → (ino ≡ (visited last.visits).ino) ⊎ met ino) → HasCome more after
+  goes met more last after come found marked = (
+    record { before = last; cell = found.0 } ∷ come.0,
+    (come.1, found.1),
+    λ ino is. elim (marked ino is) [ inl here ↦ inl here | inr before ↦ inr (come.2 ino before) ],
+  )
 
-  pub sees_all : (last : Showing) → HasCome last → is_over last ≡ true → VisitAll numbers snapshot first (Ok last.seen)
-  sees_all last come over = record { visits = come.0; last = last; are = come.1; ends = (over, refl) }
+  pub sees_all : (met : ℕ → Type 0) (last : Showing) → HasCome met last → is_over last ≡ true
+      → AreAllVisits numbers snapshot first (Ok last.seen)
+  sees_all met last come over = record { visits = come.0; last = last; are = come.1; ends = (over, refl) }
 
-  pub breaks : (last : Showing) (result : Result (List TreeNode) Fault) (why : Fault) → HasCome last
-      → FindsCell numbers snapshot last (Err why) → result ≡ Err why → IsMisfitOrWant why → VisitAll numbers snapshot first result
-  breaks last result why come found is (inl misfit) =
-      subst (VisitAll numbers snapshot first) (sym (is ∙ ap (λ (f : Fault). Err f) misfit.1)) tt
-  breaks last result why come found is (inr none) =
-      let wanted : FindsCell numbers snapshot last (Err out_of_memory) =
-      subst (λ (f : Fault). FindsCell numbers snapshot last (Err f)) none found in
-      subst (VisitAll numbers snapshot first) (sym (is ∙ ap (λ (f : Fault). Err f) none))
+  pub breaks : (met : ℕ → Type 0) (last : Showing) (result : Result (List TreeNode) Fault) (why : Fault) → HasCome met last
+      → FindsCell numbers snapshot met last (Err why) → result ≡ Err why → IsMisfitOrWant why → AreAllVisits numbers snapshot first result
+  breaks met last result why come found is (inl (what, wrong)) =
+      let misfit : FindsCell numbers snapshot met last (Err (fault.Mismatch what)) =
+      subst (λ (f : Fault). FindsCell numbers snapshot met last (Err f)) wrong found in
+      subst (AreAllVisits numbers snapshot first) (sym (is ∙ ap (λ (f : Fault). Err f) wrong))
+      (record {
+        visits = come.0;
+        last = last;
+        are = come.1;
+        ends = also_met numbers snapshot met (HasMet come.0) last what come.2 misfit;
+      })
+  breaks met last result why come found is (inr none) =
+      let wanted : FindsCell numbers snapshot met last (Err out_of_memory) =
+      subst (λ (f : Fault). FindsCell numbers snapshot met last (Err f)) none found in
+      subst (AreAllVisits numbers snapshot first) (sym (is ∙ ap (λ (f : Fault). Err f) none))
       (record { visits = come.0; last = last; are = come.1; ends = (refl, wanted.0, wanted.1) })
 
 -- ---- the step that comes next
@@ -209,7 +250,7 @@ module _ (numbers : GeometryNumbers) (actor snapshot : ℕ) (first : Showing) (p
 
   pub shown_runs : (shown : Result (List TreeNode) Fault) (all : AreAllVisits numbers snapshot first shown)
       → IsUnpinTurn numbers snapshot shown → AllByRecursion (FoundWhole snapshot) all.visits
-      → IsRun numbers actor empty_hand start (answer_of_show shown) empty_hand
+      → IsShownBy numbers actor snapshot all.last shown
   shown_runs (Ok nodes) all unpin whole = record {
     turns = turns_of all.visits;
     last = on_book (at all.last) empty_hand true unpin.found unpin.left;
@@ -221,6 +262,7 @@ module _ (numbers : GeometryNumbers) (actor snapshot : ℕ) (first : Showing) (p
         (is_done all.last.left all.last.visits snapshot all.last all.ends.0))
         (ap (λ (some : List TreeNode). answer_of_show (Ok some)) (sym all.ends.1));
   }
+  shown_runs (Err (fault.Mismatch what)) all unpin whole = (turns_of all.visits, leads all.visits all.last all.are whole)
   shown_runs (Err why) all unpin whole =
       let cell = all.ends.1 in
       let visit = all.ends.2 in
@@ -242,25 +284,33 @@ module _ (numbers : GeometryNumbers) (actor snapshot : ℕ) (first : Showing) (p
 
 -- ---- the call
 
+-- a pin is refused by its turn where the snapshot does not live
+pub finds_pin : (numbers : GeometryNumbers) (snapshot : ℕ) (result : Result Showing Fault) → IsPinTurn numbers snapshot result
+    → FailsOnly fault.NoSnapshot result → FindsPin numbers snapshot result
+finds_pin numbers snapshot (Ok first) pin err = pin
+finds_pin numbers snapshot (Err why) pin err =
+    subst (λ (f : Fault). FindsPin numbers snapshot (Err f)) (sym err) (subst (λ (f : Fault). IsPinTurn numbers snapshot (Err f)) err pin)
+
 module _ (numbers : GeometryNumbers) (actor snapshot : ℕ) where
   -- one whose snapshot was not pinned
-  pub not_pinned : (result : Result Showing Fault) (why : Fault) → result ≡ Err why
-      → (result ≡ Err (fault.Mismatch part.Records)) ⊎ IsPinTurn numbers snapshot result
-      → (why ≡ fault.NoSnapshot) ⊎ (why ≡ fault.Mismatch part.Records) → IsShowRun numbers actor snapshot (Err why)
-  not_pinned result why is turn (inr wrong) =
+  pub not_pinned : (why : Fault) → FindsPin numbers snapshot (Err why) → (why ≡ fault.NoSnapshot) ⊎ (why ≡ fault.Mismatch part.Records)
+      → IsShowRun numbers actor snapshot (Err why)
+  not_pinned why found (inr wrong) =
+      let misfit : FindsPin numbers snapshot (Err (fault.Mismatch part.Records)) =
+      subst (λ (f : Fault). FindsPin numbers snapshot (Err f)) wrong found in
       subst (λ (f : Fault). IsShowRun numbers actor snapshot (Err f)) (sym wrong)
-      (record { turns = []; hand = empty_hand; running = showing snapshot; leads = (refl, refl) })
-  not_pinned result why is (inl wrong) (inl none) = let both = sym wrong ∙ is in cc
-  not_pinned result why is (inr turn) (inl none) =
+      (inl (broken numbers actor empty_hand (showing snapshot) [] no_hand (showing snapshot) part.Records (refl, refl)
+      (Unpinnable snapshot misfit.1 refl misfit.2 refl)))
+  not_pinned why found (inl none) =
       let refused : IsPinTurn numbers snapshot (Err fault.NoSnapshot) =
-      subst (IsPinTurn numbers snapshot) (is ∙ ap (λ (f : Fault). Err f) none) turn in
+      subst (λ (f : Fault). FindsPin numbers snapshot (Err f)) none found in
       subst (λ (f : Fault). IsShowRun numbers actor snapshot (Err f)) (sym none)
       (one_turn numbers actor true (showing snapshot) empty_hand empty_hand refused.found refused.left (Err fault.NoSnapshot)
       (refused.turn actor (showing snapshot) (record { next = refl; slots = refl })))
 
   -- one that was pinned
   pinned_run : (first : Showing) → IsPinTurn numbers snapshot (Ok first) → (shown : Result (List TreeNode) Fault)
-      → VisitAll numbers snapshot first shown → IsUnpinTurn numbers snapshot shown
+      → AreAllVisits numbers snapshot first shown → IsUnpinTurn numbers snapshot shown
       → IsShowRun numbers actor snapshot (answer_of_show shown)
   pinned_run first pin (Ok nodes) all unpin = (
     nodes,
@@ -273,8 +323,14 @@ module _ (numbers : GeometryNumbers) (actor snapshot : ℕ) where
       run = shown_runs numbers actor snapshot first pin (Ok nodes) all unpin;
     },
   )
-  pinned_run first pin (Err (fault.Mismatch part)) all unpin =
-      record { turns = []; hand = empty_hand; running = showing snapshot; leads = (refl, refl) }
+  pinned_run first pin (Err (fault.Mismatch what)) all unpin =
+      inr (inl (record {
+        first = first;
+        pin = pin;
+        all = all;
+        unpin = unpin;
+        run = shown_runs numbers actor snapshot first pin (Err (fault.Mismatch what)) all unpin;
+      }))
   pinned_run first pin (Err (fault.OutOfMemory memory)) all unpin = record {
     first = first;
     pin = pin;
@@ -284,34 +340,28 @@ module _ (numbers : GeometryNumbers) (actor snapshot : ℕ) where
   }
   pinned_run first pin (Err other) all unpin = let no = all.ends.0 in cc
 
-  pub show_run : (first : Showing) (begun : Result Showing Fault) → begun ≡ Ok first
-      → (begun ≡ Err (fault.Mismatch part.Records)) ⊎ IsPinTurn numbers snapshot begun → (shown : Result (List TreeNode) Fault)
-      → VisitAll numbers snapshot first shown → (told : Result Answer Fault)
-      → (told ≡ Err (fault.Mismatch part.Records)) ⊎ ((told ≡ answer_of_show shown) × IsUnpinTurn numbers snapshot shown)
+  pub show_run : (first : Showing) → IsPinTurn numbers snapshot (Ok first) → (shown : Result (List TreeNode) Fault)
+      → AreAllVisits numbers snapshot first shown → (told : Result Answer Fault) → FindsUnpin numbers snapshot shown told
       → IsShowRun numbers actor snapshot told
-  show_run first begun is (inl wrong) shown all told end = let both = sym wrong ∙ is in cc
-  show_run first begun is (inr pin) shown all told (inl wrong) =
-      subst (IsShowRun numbers actor snapshot) (sym wrong)
-      (record { turns = []; hand = empty_hand; running = showing snapshot; leads = (refl, refl) })
-  show_run first begun is (inr pin) shown all told (inr end) =
-      subst (IsShowRun numbers actor snapshot) (sym end.0)
-      (pinned_run first (subst (IsPinTurn numbers snapshot) is pin) shown all end.1)
+  show_run first pin shown all told (inl gone) =
+      subst (IsShowRun numbers actor snapshot) (sym gone.0)
+      (inr (inr (record { first = first; pin = pin; shown = shown; all = all; book = gone.1; none = gone.2; records = refl })))
+  show_run first pin shown all told (inr end) =
+      subst (IsShowRun numbers actor snapshot) (sym end.0) (pinned_run first pin shown all end.1)
 
   -- ---- its answers and refusals
 
   pub told_tree : (shown : Result (List TreeNode) Fault) (told : Result Answer Fault) (answer : Answer) → told ≡ Ok answer
-      → (told ≡ Err (fault.Mismatch part.Records)) ⊎ ((told ≡ answer_of_show shown) × IsUnpinTurn numbers snapshot shown)
-      → (tree : List TreeNode) × (answer ≡ answers.Tree tree)
-  told_tree shown told answer is (inl wrong) = let both = sym wrong ∙ is in cc
+      → FindsUnpin numbers snapshot shown told → (tree : List TreeNode) × (answer ≡ answers.Tree tree)
+  told_tree shown told answer is (inl gone) = let both = sym gone.0 ∙ is in cc
   told_tree (Ok nodes) told answer is (inr end) =
       let told_is : told ≡ Ok (answers.Tree nodes) = end.0 in let both : answers.Tree nodes ≡ answer = cc in (nodes, sym both)
   told_tree (Err why) told answer is (inr end) = let both = sym end.0 ∙ is in cc
 
   pub told_fault : (faults : List Fault) (shown : Result (List TreeNode) Fault) (told : Result Answer Fault) (why : Fault) → told ≡ Err why
-      → (told ≡ Err (fault.Mismatch part.Records)) ⊎ ((told ≡ answer_of_show shown) × IsUnpinTurn numbers snapshot shown)
-      → IfErr shown IsMisfitOrWant → Contains faults out_of_memory → Contains faults why ⊎ IsMisfit why
-  told_fault faults shown told why is (inl wrong) err has =
-      let same : why ≡ fault.Mismatch part.Records = cc in inr (part.Records, same)
+      → FindsUnpin numbers snapshot shown told → IfErr shown IsMisfitOrWant → Contains faults out_of_memory → Contains faults why ⊎ IsMisfit why
+  told_fault faults shown told why is (inl gone) err has =
+      let wrong = gone.0 in let same : why ≡ fault.Mismatch part.Records = cc in inr (part.Records, same)
   told_fault faults (Ok nodes) told why is (inr end) err has = let both = sym end.0 ∙ is in cc
   told_fault faults (Err f) told why is (inr end) (inl misfit) has =
       let same : why ≡ f = cc in inr (misfit.0, same ∙ misfit.1)

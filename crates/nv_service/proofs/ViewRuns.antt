@@ -1,6 +1,8 @@
 -- A view is a run of one turn, on the cell that it found.
 use Rattle.std.proofs.Common.{◌≡◌, ◌≢◌, ◌∙◌, ◌<◌, ◌≤◌, ◌⊎◌, ℕ, Bool, false, true, List, [], ◌∷◌, None, Some, ap, inl, inr, refl, subst, sym}
 use Rattle.std.specs.Prelude.{IfErr, IfOk, MatchResult, Result, Ok, Err, is_ok}
+use Rattle.nv_alloc.specs.Queue.{QueueValue}
+use Rattle.nv_alloc.specs.declared.hand.Hand.{Hand}
 use Rattle.nv_base.specs.Refusals.{FailsAsChecked}
 use Rattle.nv_base.specs.declared.fault.Fault.{Fault}
 use Rattle.nv_base.specs.declared.fault.Fault.TheVariants as fault
@@ -23,16 +25,19 @@ use Rattle.nv_steps.specs.Reading.{answer_of_view, reading, unlocked}
 use Rattle.nv_steps.specs.Runs.{IsRun}
 use Rattle.nv_steps.proofs.States.{some_state}
 use Rattle.nv_steps.proofs.VisitTurns.{none_lent, visits}
+use Rattle.nv_service.specs.Locked.{LockedValue}
+use Rattle.nv_service.specs.Misfits.{IsMisplaced, Misplaced}
 use Rattle.nv_service.specs.RunCalls.{IsReadRun, told_as, viewing}
 use Rattle.nv_service.specs.SessionRuns.{IsSessionRun}
 use Rattle.nv_service.specs.declared.seen.Seen.{Seen}
+use Rattle.nv_service.proofs.Holding.{broken}
 
 -- ---- runs of a session
 
 pub session_run : (numbers : GeometryNumbers) (actor : ℕ) (h0 h : HandState) (r0 : Running) (result : Result Answer Fault)
     → IsRun numbers actor h0 r0 result h → IsSessionRun numbers actor h0 r0 result h
 session_run numbers actor h0 h r0 (Ok answer) run = run
-session_run numbers actor h0 h r0 (Err (fault.Mismatch part)) run = record { turns = []; hand = h0; running = r0; leads = (refl, refl) }
+session_run numbers actor h0 h r0 (Err (fault.Mismatch what)) run = inr run
 session_run numbers actor h0 h r0 (Err other) run = run
 
 -- ---- what a view is told
@@ -68,6 +73,11 @@ cell_there numbers ino cell inside =
 
 -- ---- one turn
 
+-- the hand of a call that only reads
+abbrev pub no_hand : Hand
+no_hand =
+    let none : QueueValue = record { blocks = []; size = 0; room = 0 } in record { «data» = none; pages = none; chain = []; ino = None }
+
 module _ (numbers : GeometryNumbers) (actor ino : ℕ) (c : Call) (reads : is_visit c ≡ true)
     (at : ino ≡ (handle_at (handles nothing_looked c) 0).ino) where
   -- the view of a slot that is not there is stale
@@ -84,19 +94,24 @@ module _ (numbers : GeometryNumbers) (actor ino : ℕ) (c : Call) (reads : is_vi
   -- a view whose slot was not held
   pub not_held : (result : Result Seen Fault) (why : Fault) → result ≡ Err why → (why ≡ fault.Stale) ⊎ (why ≡ fault.Mismatch part.Lists)
       → (why ≡ fault.Stale → numbers.inodes ≤ ino)
+      → (why ≡ fault.Mismatch part.Lists → (place : LockedValue) × IsMisplaced ino place)
       → IsSessionRun numbers actor empty_hand (viewing c) (told_as result) empty_hand
-  not_held result why is (inl stale) out =
+  not_held result why is (inl stale) out placed =
       subst (λ (r : Result Seen Fault). IsSessionRun numbers actor empty_hand (viewing c) (told_as r) empty_hand)
       (sym (is ∙ ap (λ (f : Fault). Err f) stale)) (none_there (out stale))
-  not_held result why is (inr wrong) out =
+  not_held result why is (inr wrong) out placed =
+      let place = placed wrong in
       subst (λ (r : Result Seen Fault). IsSessionRun numbers actor empty_hand (viewing c) (told_as r) empty_hand)
-      (sym (is ∙ ap (λ (f : Fault). Err f) wrong)) (record { turns = []; hand = empty_hand; running = viewing c; leads = (refl, refl) })
+      (sym (is ∙ ap (λ (f : Fault). Err f) wrong))
+      (inl (broken numbers actor empty_hand (viewing c) [] no_hand (viewing c) part.Lists (refl, refl)
+      (Misplaced ino place.0 at place.1 refl)))
 
   -- the same of a read
   pub not_read : (result : Result Seen Fault) (why : Fault) → result ≡ Err why → (why ≡ fault.Stale) ⊎ (why ≡ fault.Mismatch part.Lists)
-      → (why ≡ fault.Stale → numbers.inodes ≤ ino) → IsReadRun numbers actor ino c (told_as result)
-  not_read (Ok seen) why is how out = cc
-  not_read (Err f) why is how out = not_held (Err f) why is how out
+      → (why ≡ fault.Stale → numbers.inodes ≤ ino)
+      → (why ≡ fault.Mismatch part.Lists → (place : LockedValue) × IsMisplaced ino place) → IsReadRun numbers actor ino c (told_as result)
+  not_read (Ok seen) why is how out placed = cc
+  not_read (Err f) why is how out placed = not_held (Err f) why is how out placed
 
   module _ (cell : CellValue) (inside : ino < numbers.inodes) where
     abbrev IsTold : Result View Fault → Type 0

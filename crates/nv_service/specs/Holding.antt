@@ -56,10 +56,10 @@ IsToldFresh wanted asked lists old new (taken.Lacks left) =
     (length new.blocks + left ≡ length old.blocks + wanted) × (left ≤ new.room) × (asked + 1 < lists)
 IsToldFresh wanted asked lists old new taken.TooFew = lists ≤ asked + 1
 
--- A CLEANER UNLOCKS NEXT, to end by what it has cleaned or by its refusal, except where a part did not fit
+-- A CLEANER UNLOCKS NEXT, to end by what it has cleaned or by its refusal; or a test breaks it off
 abbrev pub IsCleaned : GeometryNumbers → ℕ → HandState → Running → Result Cleaned Fault → HandState → Type 0
 IsCleaned numbers actor h0 r0 (Ok cleaned) h =
     (r : Running) × UnlocksNext numbers actor h0 r0 h (once_ending (Cleans cleaned) r)
-IsCleaned numbers actor h0 r0 (Err (Mismatch part)) h = IsBrokenOff numbers actor h0 r0
+IsCleaned numbers actor h0 r0 (Err (Mismatch what)) h = IsBrokenOff numbers actor h0 r0 what
 IsCleaned numbers actor h0 r0 (Err fault) h =
     (r : Running) × UnlocksNext numbers actor h0 r0 h (once_ending (Refuses fault) r)

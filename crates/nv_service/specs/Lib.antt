@@ -11,6 +11,7 @@ pub mod Holding
 pub mod Judging
 pub mod Left
 pub mod Locked
+pub mod Misfits
 pub mod Names
 pub mod Opened
 pub mod Opening

@@ -1,6 +1,6 @@
 //! The place of an inode's cell under its lock.
 
-ghost use Rattle.std.specs.Prelude.{◌≡◌, ◌≢◌, ◌+◌, ◌<◌, ◌≤◌, ℕ, IfSome, MatchOption, None, Some, is_some, slice_index};
+ghost use Rattle.std.specs.Prelude.{◌≡◌, ◌≢◌, ◌+◌, ◌<◌, ◌≤◌, ◌↔◌, ℕ, IfSome, IsTrue, MatchOption, None, Some, slice_index};
 ghost use Rattle.nv_cell.specs.Cell.{IsCell, block_total};
 ghost use Rattle.nv_service.specs.Locked.{IsThere, cell_of, version_at, with_cell, without_cell};
 
@@ -63,11 +63,11 @@ impl<C: Commits, B: Blocks> LockedCell<C, B> {
         }
     }
 
-    /// Whether the cell is there.
-    pub(crate) fn has_cell(&self) -> bool
-        ensures { result ≡ is_some self.now.cell }
+    /// Whether this is the place of an inode, and its cell is there.
+    pub(crate) fn has_cell_of(&self, ino: Ino) -> bool
+        ensures { IsTrue result ↔ ((self.now.ino ≡ ino) × IsThere self.now) }
     {
-        self.cell.is_some()
+        self.ino == ino && self.cell.is_some()
     }
 
     /// The cell of a place that has it.

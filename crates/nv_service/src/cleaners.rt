@@ -1,12 +1,13 @@
 //! The cleaners of the log of one inode.
 
-ghost use Rattle.std.specs.Prelude.{◌≡◌, ◌<◌, IfErr, OnOk, length};
+ghost use Rattle.std.specs.Prelude.{◌≡◌, ◌<◌, ◌↔◌, IfErr, IsTrue, OnErr, OnOk, length};
 ghost use Rattle.nv_alloc.specs.Hand.{blocks_of};
 ghost use Rattle.nv_machine.specs.World.{HandState, Running, empty_hand};
 ghost use Rattle.nv_service.specs.Ending.{CanClean, IsEmptyHand, cleaner_of};
 ghost use Rattle.nv_service.specs.Holding.{Holds, IsCleaned};
 ghost use Rattle.nv_service.specs.Locked.{IsThere};
-ghost use Rattle.nv_service.specs.Refusing.{IsMisfit, MayRefuseSnapshotOrCleaner};
+ghost use Rattle.nv_service.specs.Misfits.{IsUncleanable};
+ghost use Rattle.nv_service.specs.Refusing.{MayRefuseSnapshotOrCleaner};
 ghost use Rattle.nv_service.specs.RunCalls.{cleaning, planning};
 ghost use Rattle.nv_steps.specs.Hands.{hand_of};
 ghost use Rattle.nv_steps.specs.Runs.{Unseen};
@@ -28,7 +29,7 @@ use std::sync::ledger::Share;
 /// whose CPU's list is asked first for pages. The hand gets the pages that the log loses.
 ///
 /// `Stale` where the slot has no inode; `NoSpace` where each list was asked and they had too few pages together;
-/// `OutOfMemory` where room was refused; `Mismatch` where the cell is not as a cleaner needs it.
+/// `OutOfMemory` where room was refused; `Mismatch` where the place, the cell or a list is not as a cleaner needs it.
 pub(crate) fn clean_log<C: Commits, B: Blocks, R: Wait>(
     rt: &R,
     service: &Service<C, B>,
@@ -42,7 +43,7 @@ pub(crate) fn clean_log<C: Commits, B: Blocks, R: Wait>(
     requires part { 0 < mine.old.parts }
     requires amount { mine.old.amount ≡ length (blocks_of hand.old) }
     requires empty { IsEmptyHand hand.old }
-    // A cleaner is a run of the machine's turns up to its unlock.
+    // A cleaner is a run of the machine's turns up to its unlock, except where a test breaks it off.
     ensures run { IsCleaned service.now.geometry.numbers number empty_hand
         (cleaning service.now.geometry.numbers (cleaner_of manner ino)) result (hand_of hand.new) }
     ensures err { IfErr result (MayRefuseSnapshotOrCleaner (cleaner_of manner ino)) }
@@ -50,7 +51,7 @@ pub(crate) fn clean_log<C: Commits, B: Blocks, R: Wait>(
     ensures amount { mine.new.amount ≡ length (blocks_of hand.new) }
 {
     let Some(lock) = service.inode_lock(ino) else {
-        return Err(Fault::Mismatch(MismatchPart::Lists));
+        unreachable!()
     };
     let mut cell = hold_at(rt, lock, ino)?;
     clean_held(rt, service, number, &mut *cell, hand, mine, manner)
@@ -76,6 +77,8 @@ fn clean_held<C: Commits, B: Blocks, R: Wait>(
         → Holds service.now.geometry.numbers number h0 r0 cell.old.ino Unseen (hand_of hand.old)
         (planning manner cell.old.ino)
         → IsCleaned service.now.geometry.numbers number h0 r0 result (hand_of hand.new) }
+    // A refused one leaves the cell as it found it.
+    ensures same { OnErr result (cell.new ≡ cell.old) }
     ensures err { IfErr result (MayRefuseSnapshotOrCleaner (cleaner_of manner cell.old.ino)) }
     ensures parts { mine.new.parts ≡ mine.old.parts }
     ensures amount { mine.new.amount ≡ length (blocks_of hand.new) }
@@ -97,10 +100,11 @@ fn clean_held<C: Commits, B: Blocks, R: Wait>(
 /// over the marks.
 fn test_cell(geometry: &Geometry, cell: &InodeCell, hand: &Hand) -> Result<(), Fault>
     ensures ok { OnOk result (CanClean geometry.now.numbers.block cell.now.state hand.now) }
-    ensures err { IfErr result IsMisfit }
+    ensures misfit { IfErr result (λ why. (what : MismatchPart)
+        × (why ≡ Fault.Mismatch what)
+        × IsUncleanable geometry.now.numbers.block cell.now.state hand.now what) }
 {
-    let block = geometry.numbers.block;
-    if cell.block_bytes() != block || hand.pages.block_bytes() as u64 != block {
+    if !are_sized(geometry, cell, hand) {
         return Err(Fault::Mismatch(MismatchPart::Lists));
     }
     if cell.tail() != cell.len() {
@@ -110,4 +114,13 @@ fn test_cell(geometry: &Geometry, cell: &InodeCell, hand: &Hand) -> Result<(), F
         return Err(Fault::Mismatch(MismatchPart::Records));
     }
     Ok(())
+}
+
+/// Whether a cell and the log pages of a hand are for blocks of the device's size.
+fn are_sized(geometry: &Geometry, cell: &InodeCell, hand: &Hand) -> bool
+    ensures { IsTrue result ↔ ((cell.now.state.block ≡ geometry.now.numbers.block)
+        × (hand.now.pages.size ≡ geometry.now.numbers.block)) }
+{
+    let block = geometry.numbers.block;
+    cell.block_bytes() == block && hand.pages.block_bytes() as u64 == block
 }

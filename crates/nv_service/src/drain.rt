@@ -1,15 +1,16 @@
 //! Deferred records are released.
 
-ghost use Rattle.std.specs.Prelude.{◌≡◌, ◌-◌, ◌<◌, ◌≤◌, ℕ, IfErr, IfOk, IsTrue, OnOk, length, slice_get};
+ghost use Rattle.std.specs.Prelude.{◌≡◌, ◌-◌, ◌<◌, ◌≤◌, ◌↔◌, ℕ, Err, IfErr, IfOk, IsTrue, OnErr, OnOk, length, slice_get};
 ghost use Rattle.std.specs.Option.{ForSome};
 ghost use Rattle.nv_alloc.specs.Hand.{blocks_of};
 ghost use Rattle.nv_base.specs.declared.geometry.GeometryNumbers.{GeometryNumbers};
 ghost use Rattle.nv_machine.specs.World as machine;
 ghost use Rattle.nv_machine.specs.World.{HandState, Running, empty_hand};
+ghost use Rattle.nv_service.specs.Cleaning.{CanRelease};
 ghost use Rattle.nv_service.specs.Draining.{CanReleasePicked, EndsPick, HasDrained, HasLooked, HasPicked, HasReleased, is_record};
 ghost use Rattle.nv_service.specs.Locked.{IsThere};
 ghost use Rattle.nv_service.specs.Refusing.{IsMisfit, IsMisfitOrWant};
-ghost use Rattle.nv_service.specs.SessionRuns.{IsSessionRun};
+ghost use Rattle.nv_service.specs.SessionRuns.{IsGivingRun, IsSessionRun};
 ghost use Rattle.nv_service.specs.Sessions.{IsGivenBack, held_by};
 ghost use Rattle.nv_service.specs.Underway.{HasCome};
 ghost use Rattle.nv_steps.specs.Hands.{hand_of};
@@ -49,9 +50,9 @@ pub(crate) fn drain_deferred<C: Commits, B: Blocks, R: Wait>(
     requires part { 0 < mine.old.parts }
     requires amount { mine.old.amount ≡ length (blocks_of hand.old) }
     requires empty { hand_of hand.old ≡ empty_hand }
-    // A drain is a run of the machine's turns, or one that a test broke off.
-    ensures run { (actor : ℕ) (r : Running) → IsSessionRun service.now.geometry.numbers actor
-        empty_hand (once_drained 0 (most - 1) r) result empty_hand }
+    // A drain is a run of the machine's turns; or a test breaks it off, or its hand keeps some.
+    ensures run { (actor : ℕ) (r : Running) → IsGivingRun service.now.geometry.numbers actor
+        (once_drained 0 (most - 1) r) (held_by hand.new giving.new) result }
     ensures few { IfOk result (λ answer. (n : ℕ) × (n ≤ most) × (answer ≡ Answer.Count n)) }
     ensures err { IfErr result IsMisfitOrWant }
     ensures parts { mine.new.parts ≡ mine.old.parts }
@@ -93,6 +94,11 @@ fn drain_next<C: Commits, B: Blocks, R: Wait>(
         → HasCome service.now.geometry.numbers actor h0 r0 empty_hand (once_drained released left r)
         → IfOk result (λ picked. ForSome picked
         (HasDrained service.now.geometry.numbers actor h0 r0 released left r)) }
+    ensures refused { (actor left : ℕ) (r0 r : Running)
+        → HasCome service.now.geometry.numbers actor empty_hand r0 empty_hand
+        (once_drained released left r)
+        → IfErr result (λ why. IsGivingRun service.now.geometry.numbers actor r0
+        (held_by hand.new giving.new) (Err why)) }
     ensures ends { IfOk result (λ picked. ForSome picked (EndsPick released)) }
     ensures empty { OnOk result (hand_of hand.new ≡ empty_hand) }
     ensures err { IfErr result IsMisfit }
@@ -156,15 +162,17 @@ fn release_first<C: Commits, B: Blocks, R: Wait>(
         → IsBefore (machine.Pick (drain_of released left)) r
         → IfOk result (λ picked. ForSome picked (HasReleased service.now.geometry.numbers actor
         h0 r0 (drain_of released left) r (hand_of hand.new))) }
+    ensures refused { (actor left : ℕ) (h0 : HandState) (r0 r : Running)
+        → HasCome service.now.geometry.numbers actor h0 r0 empty_hand r
+        → IsBefore (machine.Pick (drain_of released left)) r
+        → IfErr result (λ why. IsSessionRun service.now.geometry.numbers actor h0 r0 (Err why)
+        empty_hand) }
     ensures ends { IfOk result (λ picked. ForSome picked (EndsPick released)) }
     ensures err { IfErr result IsMisfit }
     ensures back { IfErr result (λ why. hand_of hand.new ≡ empty_hand) }
     ensures parts { mine.new.parts ≡ mine.old.parts }
     ensures amount { mine.new.amount ≡ length (blocks_of hand.new) }
 {
-    if first.ino.number() >= service.geometry.numbers.inodes {
-        return Err(Fault::Mismatch(MismatchPart::Records));
-    }
     let Some(lock) = service.inode_lock(first.ino) else {
         return Err(Fault::Mismatch(MismatchPart::Records));
     };
@@ -193,7 +201,14 @@ fn release_held<C: Commits, B: Blocks, R: Wait>(
         → IsBefore (machine.Pick (drain_of released left)) r
         → IfOk result (λ picked. ForSome picked (HasReleased service.now.geometry.numbers actor
         h0 r0 (drain_of released left) r (hand_of hand.new))) }
+    ensures refused { (actor left : ℕ) (h0 : HandState) (r0 r : Running)
+        → HasCome service.now.geometry.numbers actor h0 r0 empty_hand r
+        → IsBefore (machine.Pick (drain_of released left)) r
+        → IfErr result (λ why. IsSessionRun service.now.geometry.numbers actor h0 r0 (Err why)
+        empty_hand) }
     ensures ends { IfOk result (λ picked. ForSome picked (EndsPick released)) }
+    // Where it can't be released, cell and hand stay.
+    ensures same { OnErr result (cell.new ≡ cell.old) }
     ensures err { IfErr result IsMisfit }
     ensures parts { mine.new.parts ≡ mine.old.parts }
     ensures amount { mine.new.amount ≡ length (blocks_of hand.new) }
@@ -232,6 +247,10 @@ fn pick_first<C: Commits, B: Blocks, R: Wait>(
         (HasPicked numbers actor h0 r0 (drain_of released left) r)) }
     ensures can { IfOk result (λ picked. ForSome picked
         (CanReleasePicked cell.now.state first.now hand.new)) }
+    ensures refused { (numbers : GeometryNumbers) (actor left : ℕ) (h0 : HandState)
+        (r0 r : Running) → HasCome numbers actor h0 r0 empty_hand r
+        → IsBefore (machine.Pick (drain_of released left)) r
+        → IfErr result (λ why. IsSessionRun numbers actor h0 r0 (Err why) empty_hand) }
     ensures ends { IfOk result (λ picked. ForSome picked (EndsPick released)) }
     ensures err { IfErr result IsMisfit }
     ensures empty { hand_of hand.new ≡ empty_hand }
@@ -240,15 +259,23 @@ fn pick_first<C: Commits, B: Blocks, R: Wait>(
     if first_of(book.part()) != Some(*first) {
         return Ok(None);
     }
-    if !can_release(cell, first, hand) || !has_room(hand, released) {
+    if !releases(cell, first, hand, released) {
         return Err(Fault::Mismatch(MismatchPart::Records));
     }
     Ok(Some(book.pick(hand, released)))
 }
 
+/// Whether a record can be released from a cell, by a drain that has released so many.
+fn releases(cell: &InodeCell, first: &Record, hand: &Hand, released: u64) -> bool
+    ensures { IsTrue result ↔ (CanRelease cell.now.state first.now hand.now
+        × (0 < room_for released hand.now.data.room)) }
+{
+    can_release(cell, first, hand) && has_room(hand, released)
+}
+
 /// Whether a hand has room for a block behind the pick of a drain that has released so many: the first pick makes some.
 fn has_room(hand: &Hand, released: u64) -> bool
-    ensures { IsTrue result → 0 < room_for released hand.now.data.room }
+    ensures { IsTrue result ↔ (0 < room_for released hand.now.data.room) }
 {
     released == 0 || hand.data.room() > 0
 }

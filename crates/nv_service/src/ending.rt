@@ -1,12 +1,13 @@
 //! What a call has taken and not placed goes back.
 
-ghost use Rattle.std.specs.Prelude.{◌≡◌, ◌⊎◌, ◌<◌, ◌||◌, ℕ, None, OnOk, is_err, length};
+ghost use Rattle.std.specs.Prelude.{◌≡◌, ◌⊎◌, ◌<◌, ◌||◌, ℕ, None, OnErr, OnOk, is_err, is_some, length, true};
 ghost use Rattle.nv_alloc.specs.Hand.{blocks_of};
 ghost use Rattle.nv_base.specs.Refusals.{FailsOnly};
 ghost use Rattle.nv_base.specs.declared.fault.Fault.TheVariants.{Mismatch};
 ghost use Rattle.nv_base.specs.declared.fault.MismatchPart.TheVariants.{Lists};
 ghost use Rattle.nv_machine.specs.World.{HandState, Running};
 ghost use Rattle.nv_service.specs.Ending.{IsEmptyHand};
+ghost use Rattle.nv_service.specs.SessionRuns.{KeepsSome};
 ghost use Rattle.nv_service.specs.Sessions.{IsGivenBack, held_by};
 ghost use Rattle.nv_service.specs.Underway.{GivesBack, UnlocksNext, number_left};
 ghost use Rattle.nv_steps.specs.Hands.{hand_of};
@@ -31,6 +32,7 @@ pub(crate) fn empty_hand<C: Commits, B: Blocks, R: Wait>(
     requires part { 0 < mine.old.parts }
     requires amount { mine.old.amount ≡ length (blocks_of hand.old) }
     ensures ok { OnOk result (IsEmptyHand hand.new) }
+    ensures kept { OnErr result (KeepsSome (held_by hand.new giving.new)) }
     ensures err { FailsOnly (Mismatch Lists) result }
     ensures parts { mine.new.parts ≡ mine.old.parts }
     ensures amount { mine.new.amount ≡ length (blocks_of hand.new) }
@@ -62,6 +64,7 @@ pub(crate) fn give_back<C: Commits, B: Blocks, R: Wait>(
         → OnOk result (GivesBack service.now.geometry.numbers actor h0 r0 LeftInHand.Nothing
         (hand_of hand.new) r) }
     ensures ok { OnOk result (IsEmptyHand hand.new) }
+    ensures kept { OnErr result (KeepsSome (held_by hand.new giving.new)) }
     ensures err { FailsOnly (Mismatch Lists) result }
     ensures parts { mine.new.parts ≡ mine.old.parts }
     ensures amount { mine.new.amount ≡ length (blocks_of hand.new) }
@@ -90,6 +93,7 @@ fn give_blocks<C: Commits, B: Blocks, R: Wait>(
         → OnOk result (GivesBack service.now.geometry.numbers actor h0 r0
         (number_left hand.new.ino) (hand_of hand.new) r) }
     ensures ok { OnOk result (length (blocks_of hand.new) ≡ 0) }
+    ensures kept { OnErr result (0 < length (blocks_of hand.new)) }
     ensures err { FailsOnly (Mismatch Lists) result }
     ensures parts { mine.new.parts ≡ mine.old.parts }
     ensures amount { mine.new.amount ≡ length (blocks_of hand.new) }
@@ -124,6 +128,7 @@ fn give_number<C: Commits, B: Blocks, R: Wait>(
         → OnOk result (GivesBack service.now.geometry.numbers actor h0 r0 LeftInHand.Nothing
         (hand_of hand.new) r) }
     ensures ok { OnOk result (hand.new.ino ≡ None) }
+    ensures kept { OnErr result (is_some hand.new.ino ≡ true) }
     ensures err { FailsOnly (Mismatch Lists) result }
     ensures number { (hand.new ≡ hand.old) ⊎ (hand.new ≡ record hand.old { ino = None }) }
     ensures refused { giving.new.refused ≡ (giving.old.refused || is_err result) }

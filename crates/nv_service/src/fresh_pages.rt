@@ -1,7 +1,7 @@
 //! Log pages for a cleaner, from the free lists.
 
 ghost use Rattle.std.specs.Prelude.{◌≡◌, ◌+◌, ◌-◌, ◌<◌, ◌≤◌, ◌++◌, ℕ, IfOk, OnErr, OnOk, length, min, take};
-ghost use Rattle.nv_alloc.specs.FreeList.{IsHomeList};
+ghost use Rattle.nv_alloc.specs.FreeList.{FreeBlocks, IsHomeList};
 ghost use Rattle.nv_alloc.specs.Hand.{blocks_of};
 ghost use Rattle.nv_base.specs.Refusals.{FailsEither, FailsOnly, IsRefusedBy};
 ghost use Rattle.nv_base.specs.declared.fault.Fault.TheVariants as fault;
@@ -10,6 +10,7 @@ ghost use Rattle.nv_cell.specs.Cell.{CellState};
 ghost use Rattle.nv_machine.specs.Kinds.{asked_list};
 ghost use Rattle.nv_machine.specs.World.{HandState, Running};
 ghost use Rattle.nv_service.specs.Holding.{Holds, IsToldFresh, once_asked, once_fresh, wanting};
+ghost use Rattle.nv_service.specs.SessionRuns.{IsBrokenOff};
 ghost use Rattle.nv_steps.specs.Hands.{hand_of};
 ghost use Rattle.nv_steps.specs.OnList.{IsTaking, IsTold, Taking, on_list, once_refused, taking_on, with_taken};
 ghost use Rattle.nv_steps.specs.Runs.{Known};
@@ -58,6 +59,7 @@ impl<B: Blocks> LockedList<B> {
         ensures parts { mine.new.parts ≡ mine.old.parts }
         ensures amount { mine.new.amount + length queue.old.blocks
             ≡ mine.old.amount + length queue.new.blocks }
+        ensures mislaid { OnErr result (¬ IsHomeList geometry.now.numbers cpu self.old) }
         ensures err { FailsOnly (fault.Mismatch part.Lists) result }
         ensures same { OnErr result (queue.new ≡ queue.old) }
     {
@@ -98,6 +100,11 @@ pub(crate) fn take_fresh<C: Commits, B: Blocks, R: Wait>(
         (wanting ino 0 wanted r) → IsRefusedBy result fault.NoSpace
         → Holds service.now.geometry.numbers number h0 r0 ino known (hand_of hand.new)
         (once_refused fault.NoSpace r) }
+    // It is broken off where a list is not that of the CPU which is asked.
+    ensures broken { (h0 : HandState) (r0 r : Running) (ino : ℕ) (known : Known CellState)
+        → Holds service.now.geometry.numbers number h0 r0 ino known (hand_of hand.old)
+        (wanting ino 0 wanted r) → IsRefusedBy result (fault.Mismatch part.Lists)
+        → IsBrokenOff service.now.geometry.numbers number h0 r0 part.Lists }
     ensures pages { OnOk result (length hand.new.pages.blocks
         ≡ length hand.old.pages.blocks + wanted) }
     ensures size { hand.new.pages.size ≡ hand.old.pages.size }
@@ -139,6 +146,9 @@ fn take_here<C: Commits, B: Blocks, R: Wait>(
         (hand_of hand.new) (once_asked ino asked taken r)) }
     ensures told { IfOk result (IsToldFresh wanted asked service.now.geometry.numbers.cpus
         hand.old.pages hand.new.pages) }
+    ensures mislaid { OnErr result ((list : FreeBlocks) × (¬ IsHomeList
+        service.now.geometry.numbers (asked_list service.now.geometry.numbers.cpus number asked)
+        list)) }
     ensures size { hand.new.pages.size ≡ hand.old.pages.size }
     ensures rest { hand.new ≡ record hand.old { pages = hand.new.pages } }
     ensures err { FailsOnly (fault.Mismatch part.Lists) result }
@@ -149,7 +159,7 @@ fn take_here<C: Commits, B: Blocks, R: Wait>(
     let cpus = geometry.numbers.cpus;
     let cpu = (number % cpus + asked) % cpus;
     let Some(lock) = service.list_lock(cpu) else {
-        return Err(Fault::Mismatch(MismatchPart::Lists));
+        unreachable!()
     };
     let mut list = lock.lock(rt);
     list.take_asked(geometry, cpu, &mut hand.pages, wanted, asked, mine)

@@ -1,6 +1,6 @@
 //! Whether what a hand gives back was taken.
 
-ghost use Rattle.std.specs.Prelude.{◌≡◌, ◌+◌, ◌++◌, ◌<◌, ◌↔◌, ◌||◌, ℕ, IfOk, IsOk, IsTrue, None, OnOk, Some, false, is_err, length, min, true};
+ghost use Rattle.std.specs.Prelude.{◌≡◌, ◌+◌, ◌++◌, ◌<◌, ◌↔◌, ◌||◌, ℕ, IfOk, IsOk, IsTrue, None, OnErr, OnOk, Some, false, is_err, length, min, true};
 ghost use Rattle.std.specs.Option.{ForSome};
 ghost use Rattle.nv_alloc.specs.Giving.{after_giving, not_taken};
 ghost use Rattle.nv_alloc.specs.FreeList.{IsHomeList};
@@ -17,7 +17,7 @@ ghost use Rattle.nv_service.specs.Ending.{left_over, pool_with, takes};
 ghost use Rattle.nv_service.specs.Underway.{IsFirstHome};
 ghost use Rattle.nv_steps.specs.Hands.{hand_of};
 ghost use Rattle.nv_steps.specs.LastSteps.{IsLast};
-ghost use Rattle.nv_steps.specs.OnList.{HasNumber, HaveSameHomes, IsGive, home_left, on_list};
+ghost use Rattle.nv_steps.specs.OnList.{HasNumber, IsGive, home_left, on_list};
 ghost use Rattle.nv_steps.specs.OnPool.{on_pool};
 
 use crate::list::LockedList;
@@ -95,6 +95,9 @@ impl Giving {
         // It is refused exactly where a block is left that is at home there, or the list is not the CPU's.
         ensures ok { IsOk result ↔ (IsHomeList geometry.now.numbers cpu list.old
             × AreGiven geometry.now.numbers (cpu + 1) (blocks_of hand.new)) }
+        // Then the hand keeps some.
+        ensures kept { OnErr result (0 < length (blocks_of hand.old)
+            → 0 < length (blocks_of hand.new)) }
         ensures err { FailsOnly (fault.Mismatch part.Lists) result }
         ensures refused { self.new.refused ≡ (self.old.refused || is_err result) }
     {

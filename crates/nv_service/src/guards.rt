@@ -1,6 +1,6 @@
 //! The guards of the inodes that a call locks.
 
-ghost use Rattle.std.specs.Prelude.{◌≡◌, ◌+◌, ◌<◌, ◌≤◌, ◌-◌, ◌^◌, Err, IfErr, IfOk, OnOk, length, vec_capacity, vec_len};
+ghost use Rattle.std.specs.Prelude.{◌≡◌, ◌+◌, ◌<◌, ◌≤◌, ◌-◌, ◌^◌, Err, IfErr, IfOk, OnErr, OnOk, length, vec_capacity, vec_len};
 ghost use Rattle.std.specs.Sync.Mutex.{mutex_guard_value};
 ghost use Rattle.nv_alloc.specs.Hand.{blocks_of};
 ghost use Rattle.nv_base.specs.Refusals.{FailsEither, FailsOnly};
@@ -9,7 +9,8 @@ ghost use Rattle.nv_base.specs.declared.fault.MismatchPart.TheVariants as part;
 ghost use Rattle.nv_calls.specs.Cells.{AreCells};
 ghost use Rattle.nv_service.specs.Asking.{turned_end};
 ghost use Rattle.nv_service.specs.Changing.{AreWhole, IsDoneOver, MayBeRaised, blocks_in};
-ghost use Rattle.nv_service.specs.Locked.{IsThere};
+ghost use Rattle.nv_service.specs.Locked.{IsThere, LockedValue};
+ghost use Rattle.nv_service.specs.Misfits.{IsMisplaced};
 ghost use Rattle.nv_service.specs.Refusing.{failed_by};
 ghost use Rattle.nv_service.specs.Rounds.{IsEndedBy};
 ghost use Rattle.nv_service.specs.Sessions.{at_seat};
@@ -27,8 +28,8 @@ use nv_base::{Fault, Ino, MismatchPart};
 use nv_calls::{LockedSlots, Receipt, Source};
 use std::sync::{Mutex, MutexGuard, Wait};
 
-/// Locks the cell of an inode. `Stale` where the device has no such slot, and `Mismatch` of `Lists` where a slot has no lock,
-/// or where another inode's place lies there, or an empty one.
+/// Locks the cell of an inode. `Stale` where the device has no such slot, and `Mismatch` of `Lists` where another inode's place
+/// lies there, or an empty one.
 pub(crate) fn hold<'a, C: Commits, B: Blocks, R: Wait>(
     rt: &R,
     service: &'a Service<C, B>,
@@ -40,14 +41,14 @@ pub(crate) fn hold<'a, C: Commits, B: Blocks, R: Wait>(
     ensures slot { OnOk result (ino < service.now.geometry.numbers.inodes) }
     ensures stale { IfErr result (λ why.
         why ≡ fault.Stale → service.now.geometry.numbers.inodes ≤ ino) }
+    // A `Mismatch` comes only where the place that was found is not that of the inode with its cell.
+    ensures misplaced { IfErr result (λ why. why ≡ fault.Mismatch part.Lists
+        → (place : LockedValue) × IsMisplaced ino place) }
     ensures err { FailsEither fault.Stale (fault.Mismatch part.Lists) result }
 {
-    if ino.number() >= service.geometry.numbers.inodes {
+    let Some(lock) = service.inode_lock(ino) else {
         return Err(Fault::Stale);
-    }
-    let lock = service
-        .inode_lock(ino)
-        .ok_or(Fault::Mismatch(MismatchPart::Lists))?;
+    };
     hold_at(rt, lock, ino)
 }
 
@@ -59,10 +60,11 @@ pub(crate) fn hold_at<'a, C: Commits, B: Blocks, R: Wait>(
 ) -> Result<MutexGuard<'a, LockedCell<C, B>>, Fault>
     ensures ok { IfOk result (λ guard. (mutex_guard_value guard).ino ≡ ino) }
     ensures there { IfOk result (λ guard. IsThere (mutex_guard_value guard)) }
+    ensures misplaced { OnErr result ((place : LockedValue) × IsMisplaced ino place) }
     ensures err { FailsOnly (fault.Mismatch part.Lists) result }
 {
     let cell = lock.lock(rt);
-    if cell.ino() != ino || !cell.has_cell() {
+    if !cell.has_cell_of(ino) {
         return Err(Fault::Mismatch(MismatchPart::Lists));
     }
     Ok(cell)

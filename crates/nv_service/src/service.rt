@@ -41,6 +41,9 @@ pub struct Service<C: Commits, B: Blocks> {
     // The total of its ledger of blocks is the device's number of blocks, and all parts of the ledger are accounted
     // for.
     ghost placed: { vec_len cells.locks + vec_len lists ≡ B.placed },
+    // Each slot has a lock, and so has each CPU.
+    ghost slots: { vec_len cells.locks ≡ geometry.numbers.inodes },
+    ghost cpus: { vec_len lists ≡ geometry.numbers.cpus },
     ghost all_parts: { total.parts ≡ B.whole },
     ghost all_blocks: { total.amount ≡ geometry.numbers.blocks },
 }

@@ -1,14 +1,14 @@
 //! A snapshot is pinned, shown inode by inode, and unpinned.
 
-ghost use Rattle.std.specs.Prelude.{◌≡◌, ◌<◌, ◌⊎◌, ℕ, Err, IfErr, OnOk, false};
+ghost use Rattle.std.specs.Prelude.{◌≡◌, ◌<◌, ◌≤◌, ◌⊎◌, ℕ, IfErr, OnErr, OnOk, false, vec_len};
+ghost use Rattle.nv_base.specs.Memory.{out_of_memory};
 ghost use Rattle.nv_base.specs.Refusals.{FailsEither, FailsOnly};
 ghost use Rattle.nv_base.specs.declared.fault.Fault.TheVariants as fault;
 ghost use Rattle.nv_base.specs.declared.fault.MismatchPart.TheVariants as part;
 ghost use Rattle.nv_base.specs.declared.geometry.GeometryNumbers.{GeometryNumbers};
 ghost use Rattle.nv_reader.specs.Showing.{is_over, visited};
 ghost use Rattle.nv_service.specs.Refusing.{IsMisfitOrWant};
-ghost use Rattle.nv_service.specs.ShowRuns.{FindsCell, IsPinTurn, IsUnpinTurn, VisitAll};
-ghost use Rattle.nv_steps.specs.OnBook.{answer_of_show};
+ghost use Rattle.nv_service.specs.ShowRuns.{AreAllVisits, FindsCell, FindsPin, FindsUnpin, IsMarked, SeesCell};
 
 use crate::cell::LockedCell;
 use crate::guards::hold_at;
@@ -29,8 +29,7 @@ pub(crate) fn pin<C: Commits, B: Blocks, R: Wait>(
     service: &Service<C, B>,
     snapshot: Epoch,
 ) -> Result<Showing, Fault>
-    ensures turn { (result ≡ Err (fault.Mismatch part.Records))
-        ⊎ IsPinTurn service.now.geometry.numbers snapshot result }
+    ensures turn { FindsPin service.now.geometry.numbers snapshot result }
     ensures err { FailsEither fault.NoSnapshot (fault.Mismatch part.Records) result }
 {
     let slots = service.geometry.numbers.inodes as usize;
@@ -49,8 +48,7 @@ pub(crate) fn unpin<C: Commits, B: Blocks, R: Wait>(
     snapshot: Epoch,
     shown: Result<Tree, Fault>,
 ) -> Result<Answer, Fault>
-    ensures turn { (result ≡ Err (fault.Mismatch part.Records)) ⊎ ((result ≡ answer_of_show shown)
-        × IsUnpinTurn service.now.geometry.numbers snapshot shown) }
+    ensures turn { FindsUnpin service.now.geometry.numbers snapshot shown result }
 {
     let mut book = service.book_lock().lock(rt);
     if !book.is_pinned(snapshot) {
@@ -67,7 +65,7 @@ pub(crate) fn show_tree<C: Commits, B: Blocks, R: Wait>(
     snapshot: Epoch,
     first: Showing,
 ) -> Result<Tree, Fault>
-    ensures visits { VisitAll service.now.geometry.numbers snapshot first result }
+    ensures visits { AreAllVisits service.now.geometry.numbers snapshot first result }
     ensures err { IfErr result IsMisfitOrWant }
 {
     let mut met = Vec::new(service.alloc);
@@ -90,14 +88,20 @@ fn visit<C: Commits, B: Blocks, R: Wait>(
     showing: Showing,
 ) -> Result<Showing, Fault>
     requires more { is_over showing ≡ false }
-    ensures cell { FindsCell service.now.geometry.numbers snapshot showing result }
+    requires room { (vec_len met.old ≡ 0) ⊎ (vec_len met.old ≡ service.now.geometry.numbers.inodes) }
+    ensures cell { FindsCell service.now.geometry.numbers snapshot (IsMarked met.old.items) showing
+        result }
+    ensures room { OnOk result (vec_len met.new ≡ service.now.geometry.numbers.inodes) }
+    // Its slot alone is marked.
+    ensures marks { OnOk result ((ino : ℕ) → IsMarked met.new.items ino
+        → (ino ≡ (visited showing.visits).ino) ⊎ IsMarked met.old.items ino) }
     ensures err { IfErr result IsMisfitOrWant }
 {
     let handle = showing.visited();
     let lock = slot_lock(service, &handle)?;
     let place = hold_at(rt, lock, handle.ino)?;
     let cell = place.part();
-    note_once(met, service.cells.len(), &handle)?;
+    note_once(service.alloc, met, service.cells.len(), &handle)?;
     see(service.alloc, cell, snapshot, showing)
 }
 
@@ -107,38 +111,55 @@ fn slot_lock<'a, C: Commits, B: Blocks>(
     handle: &Handle,
 ) -> Result<&'a Mutex<LockedCell<C, B>>, Fault>
     ensures slot { OnOk result (handle.now.ino < service.now.geometry.numbers.inodes) }
+    ensures none { OnErr result (service.now.geometry.numbers.inodes ≤ handle.now.ino) }
     ensures err { FailsOnly (fault.Mismatch part.Names) result }
 {
-    if handle.ino.number() >= service.geometry.numbers.inodes {
+    let Some(lock) = service.inode_lock(handle.ino) else {
         return Err(Fault::Mismatch(MismatchPart::Names));
-    }
-    service
-        .inode_lock(handle.ino)
-        .ok_or(Fault::Mismatch(MismatchPart::Names))
+    };
+    Ok(lock)
 }
 
-/// Marks the slot of a handle, one of so many, as met. `Mismatch` of `Names` where there is no such slot, or it was met before;
-/// `OutOfMemory` where room for the marks was refused.
-fn note_once(met: &mut Vec<bool>, slots: usize, handle: &Handle) -> Result<(), Fault>
-    ensures { IfErr result IsMisfitOrWant }
+/// Marks the slot of a handle, one of so many, as met. `Mismatch` of `Names` where it was met before; `OutOfMemory` where room
+/// for the marks was refused.
+fn note_once(alloc: Global, met: &mut Vec<bool>, slots: usize, handle: &Handle) -> Result<(), Fault>
+    requires inside { handle.now.ino < slots }
+    requires room { (vec_len met.old ≡ 0) ⊎ (vec_len met.old ≡ slots) }
+    ensures room { OnOk result (vec_len met.new ≡ slots) }
+    ensures marks { OnOk result ((ino : ℕ) → IsMarked met.new.items ino
+        → (ino ≡ handle.now.ino) ⊎ IsMarked met.old.items ino) }
+    ensures err { IfErr result (λ why. ((why ≡ fault.Mismatch part.Names)
+        × IsMarked met.old.items handle.now.ino) ⊎ (why ≡ out_of_memory)) }
 {
-    if met.is_empty() {
-        met.resize(slots, false)?;
+    make_marks(alloc, met, slots)?;
+    let slot = handle.ino.number() as usize;
+    if met[slot] {
+        return Err(Fault::Mismatch(MismatchPart::Names));
     }
-    match met.get_mut(handle.ino.number() as usize) {
-        Some(seen) if !*seen => {
-            *seen = true;
-            Ok(())
-        }
-        _ => Err(Fault::Mismatch(MismatchPart::Names)),
+    met[slot] = true;
+    Ok(())
+}
+
+/// Makes marks of so many slots, of which none is set, where there are none. `OutOfMemory` where room was refused.
+fn make_marks(alloc: Global, met: &mut Vec<bool>, slots: usize) -> Result<(), Fault>
+    requires room { (vec_len met.old ≡ 0) ⊎ (vec_len met.old ≡ slots) }
+    ensures room { OnOk result (vec_len met.new ≡ slots) }
+    ensures marks { OnOk result ((ino : ℕ) → IsMarked met.new.items ino
+        → IsMarked met.old.items ino) }
+    ensures err { FailsOnly out_of_memory result }
+{
+    if !met.is_empty() {
+        return Ok(());
     }
+    *met = vec![in alloc; false; slots]?;
+    Ok(())
 }
 
 /// Sees the node of a cell in the next visit of a show. `Mismatch` of `Names` where the handle leads to no node.
 fn see(alloc: Global, cell: &InodeCell, snapshot: Epoch, showing: Showing) -> Result<Showing, Fault>
     requires more { is_over showing ≡ false }
     ensures cell { (numbers : GeometryNumbers) → (visited showing.visits).ino < numbers.inodes
-        → FindsCell numbers snapshot showing result }
+        → SeesCell numbers snapshot showing cell.now result }
     ensures err { IfErr result IsMisfitOrWant }
 {
     let handle = showing.visited();

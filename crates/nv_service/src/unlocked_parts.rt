@@ -78,6 +78,9 @@ pub(crate) struct UnlockedParts<C: Commits, B: Blocks> {
     ghost room: { (vec_len cells ≤ vec_capacity cell_locks.locks)
         × (vec_len lists ≤ vec_capacity list_locks) },
     ghost placed: { vec_len cells + vec_len lists ≡ B.placed },
+    // What lay beside the cell of each slot is there, and beside the list of each CPU.
+    ghost slots: { vec_len cells ≡ geometry.numbers.inodes },
+    ghost cpus: { vec_len lists ≡ geometry.numbers.cpus },
     ghost all_parts: { total.parts ≡ B.whole },
     ghost all_blocks: { total.amount ≡ geometry.numbers.blocks },
 }

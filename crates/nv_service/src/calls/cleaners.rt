@@ -2,11 +2,10 @@
 
 ghost use Rattle.std.specs.Prelude.{◌≡◌, ◌≤◌, ℕ, Bool, IfErr, IfOk, max, min};
 ghost use Rattle.nv_base.specs.declared.limits.TheConstants.{DRAIN};
-ghost use Rattle.nv_machine.specs.World as machine;
 ghost use Rattle.nv_service.specs.Ending.{cleaner_of};
 ghost use Rattle.nv_service.specs.Refusing.{MayRefuseSnapshotOrCleaner};
 ghost use Rattle.nv_service.specs.RunCalls.{cleaning, told_as, draining};
-ghost use Rattle.nv_service.specs.SessionRuns.{IsSessionRun};
+ghost use Rattle.nv_service.specs.SessionRuns.{IsGivingRun};
 ghost use Rattle.nv_service.specs.Sessions.{IsGivenBack, with_held};
 
 use crate::cleaners::clean_log;
@@ -30,12 +29,11 @@ impl<C: Commits, B: Blocks> Session<C, B> {
         service: &Service<C, B>,
         ino: Ino,
     ) -> Result<Seen, Fault>
-        // A cleaner is a run of the machine's turns, from its start to its answer or refusal, except where it ends by
-        // `Mismatch`.
-        ensures run { IsSessionRun service.now.geometry.numbers self.old.number
-            machine.empty_hand
+        // A cleaner is a run of the machine's turns, from its start to its answer or refusal; or a test breaks it off, or
+        // its hand keeps some of what it gives back.
+        ensures run { IsGivingRun service.now.geometry.numbers self.old.number
             (cleaning service.now.geometry.numbers (SnapshotOrCleanerCall.Fast ino))
-            (told_as result) machine.empty_hand }
+            self.new.held (told_as result) }
         // Cleaners are answered by their kind, and leave what the session has seen.
         ensures answer { IfOk result (λ seen. (thorough : Bool) × (entries pages : ℕ)
             × (seen ≡ Seen.Other (Answer.Cleaned thorough entries pages))) }
@@ -56,10 +54,9 @@ impl<C: Commits, B: Blocks> Session<C, B> {
         service: &Service<C, B>,
         ino: Ino,
     ) -> Result<Seen, Fault>
-        ensures run { IsSessionRun service.now.geometry.numbers self.old.number
-            machine.empty_hand
+        ensures run { IsGivingRun service.now.geometry.numbers self.old.number
             (cleaning service.now.geometry.numbers (SnapshotOrCleanerCall.Thorough ino))
-            (told_as result) machine.empty_hand }
+            self.new.held (told_as result) }
         ensures answer { IfOk result (λ seen. (thorough : Bool) × (entries pages : ℕ)
             × (seen ≡ Seen.Other (Answer.Cleaned thorough entries pages))) }
         ensures err { IfErr result
@@ -78,10 +75,9 @@ impl<C: Commits, B: Blocks> Session<C, B> {
         service: &Service<C, B>,
         ino: Ino,
     ) -> Result<Seen, Fault>
-        ensures run { IsSessionRun service.now.geometry.numbers self.old.number
-            machine.empty_hand
+        ensures run { IsGivingRun service.now.geometry.numbers self.old.number
             (cleaning service.now.geometry.numbers (SnapshotOrCleanerCall.Auto ino))
-            (told_as result) machine.empty_hand }
+            self.new.held (told_as result) }
         ensures answer { IfOk result (λ seen. (thorough : Bool) × (entries pages : ℕ)
             × (seen ≡ Seen.Other (Answer.Cleaned thorough entries pages))) }
         ensures err { IfErr result (MayRefuseSnapshotOrCleaner (SnapshotOrCleanerCall.Auto ino)) }
@@ -99,9 +95,9 @@ impl<C: Commits, B: Blocks> Session<C, B> {
         manner: Manner,
         ino: Ino,
     ) -> Result<Seen, Fault>
-        ensures run { IsSessionRun service.now.geometry.numbers self.old.number
-            machine.empty_hand (cleaning service.now.geometry.numbers (cleaner_of manner ino))
-            (told_as result) machine.empty_hand }
+        ensures run { IsGivingRun service.now.geometry.numbers self.old.number
+            (cleaning service.now.geometry.numbers (cleaner_of manner ino)) self.new.held
+            (told_as result) }
         ensures answer { IfOk result (λ seen. (thorough : Bool) × (entries pages : ℕ)
             × (seen ≡ Seen.Other (Answer.Cleaned thorough entries pages))) }
         ensures err { IfErr result (MayRefuseSnapshotOrCleaner (cleaner_of manner ino)) }
@@ -134,9 +130,9 @@ impl<C: Commits, B: Blocks> Session<C, B> {
         service: &Service<C, B>,
         number: u64,
     ) -> Result<Seen, Fault>
-        // A drain is a run of the machine's turns, except where it ends by `Mismatch`.
-        ensures run { IsSessionRun service.now.geometry.numbers self.old.number machine.empty_hand
-            (draining number) (told_as result) machine.empty_hand }
+        // A drain is a run of the machine's turns; or a test breaks it off, or its hand keeps some of what it gives back.
+        ensures run { IsGivingRun service.now.geometry.numbers self.old.number (draining number)
+            self.new.held (told_as result) }
         // It releases no more than it may.
         ensures answer { IfOk result (λ seen. (n : ℕ) × (n ≤ max 1 (min number DRAIN))
             × (seen ≡ Seen.Other (Answer.Count n))) }

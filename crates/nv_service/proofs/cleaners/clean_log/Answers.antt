@@ -1,15 +1,17 @@
-use Rattle.std.proofs.Common.{rules, ◌≡◌, ℕ, inr, subst, sym}
+use Rattle.std.proofs.Common.{rules, ◌≡◌, ℕ, inr, refl, subst, sym}
 use Rattle.std.specs.Prelude.{IfErr}
 use Rattle.nv_base.specs.declared.fault.MismatchPart.TheVariants as part
 use Rattle.nv_machine.specs.World.{empty_hand}
 use Rattle.nv_service.specs.Ending.{cleaner_of}
 use Rattle.nv_service.specs.Holding.{Holds}
+use Rattle.nv_service.specs.Misfits.{Misplaced}
 use Rattle.nv_service.specs.Refusing.{MayRefuseSnapshotOrCleaner}
 use Rattle.nv_service.specs.RunCalls.{cleaning, planning}
 use Rattle.nv_steps.specs.Hands.{hand_of}
 use Rattle.nv_steps.specs.Runs.{Unseen}
 use Rattle.nv_service.proofs.CleanerRuns.{misfit_exit}
 use Rattle.nv_service.proofs.CleaningTurns.{holds_slot, nothing_in}
+use Rattle.nv_service.proofs.Holding.{broken}
 use Rattle.nv_service.proofs.OtherRefusals.{exits}
 use Rattle.nv_service.proofs.cleaners.clean_log.Goals as goal
 
@@ -17,8 +19,15 @@ use Rattle.nv_service.proofs.cleaners.clean_log.Goals as goal
 pub returns-in_err-cell-clause-run : goal.returns-in_err-cell-clause-run
 returns-in_err-cell-clause-run g c =
     let numbers = c.args.service.now.geometry.numbers in
-    misfit_exit numbers c.args.number empty_hand (cleaning numbers (cleaner_of c.args.manner c.args.ino)) (hand_of c.args.hand.now)
-    c.from_residual.result _ c.from_residual.ensures.1 (part.Lists, c.in_err-cell.ensures.err)
+    let number = c.args.number in
+    let m = c.args.manner in
+    let start = cleaning numbers (cleaner_of m c.args.ino) in
+    let place = c.in_err-cell.ensures.misplaced in
+    let holds = holds_slot numbers number m c.args.ino (hand_of c.args.hand.now) c.requires.inside (nothing_in c.args.hand.now c.requires.empty) in
+    misfit_exit numbers number empty_hand start (hand_of c.args.hand.now) c.from_residual.result _ part.Lists c.from_residual.ensures.1
+    c.in_err-cell.ensures.err
+    (broken numbers number empty_hand start holds.turns c.args.hand.now (planning m c.args.ino) part.Lists holds.leads
+    (Misplaced c.args.ino place.0 refl place.1 refl))
 
 pub returns-in_err-cell-clause-err : goal.returns-in_err-cell-clause-err
 returns-in_err-cell-clause-err g c =

@@ -1,4 +1,7 @@
-use Rattle.std.proofs.Common.{◌≡◌, ◌∙◌, true, Option, ap, subst, sym}
+use Rattle.std.proofs.Common.{◌≡◌, ◌∙◌, true, Option, ap, refl, subst, sym}
+use Rattle.std.specs.Prelude.{Err}
+use Rattle.nv_base.specs.declared.fault.Fault.{Fault}
+use Rattle.nv_calls.proofs.FillPages.{always_err}
 use Rattle.nv_cell.specs.Cell.{CellState, CellValue}
 use Rattle.nv_machine.specs.SnapshotOrCleaner.{one_more}
 use Rattle.nv_machine.specs.World.{Drains, HandState, empty_hand}
@@ -10,7 +13,9 @@ use Rattle.nv_steps.specs.OnBook.{drain_of}
 use Rattle.nv_steps.specs.OnCell.{on_cell, once_ending}
 use Rattle.nv_steps.specs.Turns.{IsMove}
 use Rattle.nv_steps.specs.declared.picks.Picked.{Picked}
+use Rattle.nv_service.specs.SessionRuns.{IsSessionRun}
 use Rattle.nv_service.proofs.Draining.{can_first, ends_it, releases_it}
+use Rattle.nv_service.proofs.OtherRefusals.{exits}
 use Rattle.nv_service.proofs.drain.release_held.Goals as goal
 
 pub release-requires-clause-can : goal.release-requires-clause-can
@@ -50,3 +55,12 @@ returns-then-not-is_record-clause-run g c actor left h0 r0 r w before p is =
     let none = ap (λ (x : Option Picked). is_record x) (sym is) ∙ sym c.is_record.ensures ∙ c.if-not-is_record.true in
     ends_it numbers actor h0 r0 d r (hand_of c.pick_first.new.hand) p none
     (c.in_ok-picked.ensures.run numbers actor left h0 r0 r w before p is)
+
+pub returns-in_err-picked-clause-refused : goal.returns-in_err-picked-clause-refused
+returns-in_err-picked-clause-refused g c actor left h0 r0 r w before =
+    let numbers = c.args.service.now.geometry.numbers in
+    exits (λ (why : Fault). IsSessionRun numbers actor h0 r0 (Err why) empty_hand) c.from_residual.result _ c.from_residual.ensures.1
+    (c.in_err-picked.ensures.refused numbers actor left h0 r0 r w before)
+
+pub returns-in_err-picked-clause-same : goal.returns-in_err-picked-clause-same
+returns-in_err-picked-clause-same g c = always_err c.from_residual.result _ refl

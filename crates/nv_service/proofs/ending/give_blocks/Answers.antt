@@ -1,16 +1,18 @@
-use Rattle.std.proofs.Common.{◌≡◌, ◌∙◌, ◌≤◌, ℕ, ap, arith, min, refl, subst}
+use Rattle.std.proofs.Common.{◌≡◌, ◌∙◌, ◌≤◌, ap, arith, min, refl, subst}
 use Rattle.std.proofs.Math.Bool.{or-false}
 use Rattle.std.proofs.Math.Nat.{min-le_left, min-le_right}
 use Rattle.std.specs.Option.{ForSome}
 use Rattle.nv_alloc.specs.Hand.{blocks_of}
+use Rattle.nv_calls.proofs.FillPages.{always_err}
 use Rattle.nv_machine.specs.Reads.{home_from}
-use Rattle.nv_machine.specs.World.{Running, Shared}
+use Rattle.nv_machine.specs.World.{Shared}
 use Rattle.nv_service.specs.Underway.{GivesBack, IsFirstHome}
 use Rattle.nv_steps.specs.Hands.{hand_of}
 use Rattle.nv_steps.specs.OnList.{home_left}
 use Rattle.nv_steps.specs.Parts.{IsOf}
 use Rattle.nv_steps.specs.declared.lists.LeftInHand.{LeftInHand}
 use Rattle.nv_service.proofs.FirstHomes.{first_told, given_up_to, none_given}
+use Rattle.nv_service.proofs.Keeping.{some_kept}
 use Rattle.nv_service.proofs.Underway.{gives_on, home_is, no_home, none_left, unlocks}
 use Rattle.nv_service.proofs.ending.give_blocks.Goals as goal
 use Rattle.nv_service.proofs.ending.give_blocks.Goals.{else-loop-list-test, then-loop-list-test+in_default, then-loop-list-test+in-Blocks+in_default-list_lock}
@@ -83,3 +85,14 @@ returns-clause-run g c actor h0 r0 r w =
     none_left c.find_homeless.result numbers (blocks_of hand) c.loop-list.left hand.ino
     (λ (l : LeftInHand). GivesBack numbers actor h0 r0 l (hand_of hand) r) i.home i.number c.find_homeless.ensures.ok
     (i.run actor h0 r0 r w)
+
+-- a list refuses some, or none is home of them
+pub returns-in_err-left-clause-kept : goal.returns-in_err-left-clause-kept
+returns-in_err-left-clause-kept g c =
+    let numbers = c.args.service.now.geometry.numbers in
+    let hand = c.loop-list.hand in
+    let first = subst (λ (l : LeftInHand). IsFirstHome numbers (blocks_of hand) (home_left l)) c.in-Blocks.is c.loop-list.invariant.home in
+    always_err c.from_residual.result _ (c.in_err-left.ensures.kept first.0)
+
+pub returns-clause-kept : goal.returns-clause-kept
+returns-clause-kept g c = some_kept c.find_homeless.result _ c.find_homeless.ensures.ok

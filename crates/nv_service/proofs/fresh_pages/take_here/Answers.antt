@@ -6,7 +6,7 @@ use Rattle.nv_steps.specs.OnList.{FreshPages}
 use Rattle.nv_steps.specs.Hands.{hand_of}
 use Rattle.nv_machine.specs.Kinds.{asked_list}
 use Rattle.nv_service.specs.Holding.{wanting}
-use Rattle.nv_service.proofs.CleanerRuns.{asked_here, told_here}
+use Rattle.nv_service.proofs.CleanerRuns.{asked_here, mislaid_here, told_here}
 use Rattle.nv_service.proofs.fresh_pages.take_here.Goals as goal
 
 pub returns-clause-turn : goal.returns-clause-turn
@@ -41,3 +41,11 @@ returns-clause-amount g c =
       hand_len old,
       hand_len (let new : Hand = record old { pages = c.take_asked.new.queue } in new),
     )
+
+pub returns-clause-mislaid : goal.returns-clause-mislaid
+returns-clause-mislaid g c =
+    let t = c.take_asked in
+    let numbers = c.args.service.now.geometry.numbers in
+    let number = c.args.number in
+    mislaid_here t.result numbers ((number % numbers.cpus + c.args.asked) % numbers.cpus) (asked_list numbers.cpus number c.args.asked)
+    c.deref_mut.result.now (mod-add-mod number numbers.cpus c.args.asked) t.ensures.mislaid

@@ -1,4 +1,5 @@
-use Rattle.std.proofs.Common.{inr, true, subst}
+use Rattle.std.proofs.Common.{◌∙◌, inl, inr, refl, sym, true, subst}
+use Rattle.std.proofs.lemmas.Bool.{false≢true}
 use Rattle.std.specs.Prelude.{Result}
 use Rattle.nv_base.specs.declared.fault.Fault.{Fault}
 use Rattle.nv_calls.specs.declared.answer.Answer.{Answer}
@@ -23,3 +24,7 @@ returns g c =
         },
       );
     }
+
+pub returns-then-not-is_pinned : goal.returns-then-not-is_pinned
+returns-then-not-is_pinned g c =
+    record { turn = inl (refl, c.deref.result.now.state, λ has. false≢true (sym c.if-not-is_pinned.true ∙ c.is_pinned.ensures.1 has)) }

@@ -4,6 +4,7 @@ use Rattle.nv_alloc.specs.Hand.{blocks_of}
 use Rattle.nv_machine.specs.Hands.{AreGiven}
 use Rattle.nv_steps.specs.OnList.{home_left}
 use Rattle.nv_service.proofs.FirstHomes.{given_up_to}
+use Rattle.nv_service.proofs.Keeping.{some_left}
 use Rattle.nv_service.proofs.giving_back.Giving.give_blocks.Goals as goal
 
 pub returns-then-not-is_later-clause-ok : goal.returns-then-not-is_later-clause-ok
@@ -13,6 +14,11 @@ returns-then-not-is_later-clause-ok g c = (
       let later = c.is_later.ensures.1 (λ home is. let at = c.give_blocks-left.ensures.later (c.args.cpu + 1) both.1 home is in omega (arith, at)) in
       absurd (false≢true (sym c.if-not-is_later.true ∙ later)),
 )
+
+pub returns-then-not-is_later-clause-kept : goal.returns-then-not-is_later-clause-kept
+returns-then-not-is_later-clause-kept g c some =
+    some_left c.args.geometry.now.numbers (blocks_of c.give_blocks-left.new.hand) (home_left c.give_blocks-left.result) c.args.cpu
+    c.give_blocks-left.ensures.home (λ later. false≢true (sym c.if-not-is_later.true ∙ c.is_later.ensures.1 later))
 
 -- what is left is at home on later CPUs
 pub returns-clause-turn : goal.returns-clause-turn

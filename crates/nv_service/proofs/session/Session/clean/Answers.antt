@@ -1,7 +1,6 @@
-use Rattle.std.proofs.Common.{ap, arith, refl, subst}
+use Rattle.std.proofs.Common.{ap, arith, inr, refl, subst}
 use Rattle.std.specs.Prelude.{Ok, Result}
 use Rattle.nv_base.specs.declared.fault.Fault.{Fault}
-use Rattle.nv_base.specs.declared.fault.MismatchPart.TheVariants as part
 use Rattle.nv_calls.specs.declared.answer.Answer.{Answer}
 use Rattle.nv_calls.specs.declared.answer.Answer.TheVariants as answers
 use Rattle.nv_clean.specs.declared.cleaned.Cleaned.{Cleaned}
@@ -9,9 +8,10 @@ use Rattle.nv_machine.specs.World.{empty_hand}
 use Rattle.nv_service.specs.Ending.{cleaner_of}
 use Rattle.nv_service.specs.Holding.{IsCleaned}
 use Rattle.nv_service.specs.RunCalls.{cleaning, told_as}
-use Rattle.nv_service.specs.Sessions.{SessionValue}
+use Rattle.nv_service.specs.Sessions.{SessionValue, held_by}
 use Rattle.nv_steps.specs.Hands.{hand_of}
-use Rattle.nv_service.proofs.CleaningTurns.{cleaned_run, misfit_run, nothing_in, refused_run, seated, stale_at_once}
+use Rattle.nv_service.proofs.CleaningTurns.{cleaned_run, nothing_in, refused_run, seated, stale_at_once}
+use Rattle.nv_service.proofs.Holding.{keeps}
 use Rattle.nv_service.proofs.OtherRefusals.{exit_is}
 use Rattle.nv_service.proofs.session.Session.clean.Goals as goal
 
@@ -19,20 +19,22 @@ use Rattle.nv_service.proofs.session.Session.clean.Goals as goal
 pub returns-in_err-empty_hand-clause-run : goal.returns-in_err-empty_hand-clause-run
 returns-in_err-empty_hand-clause-run g c =
     let numbers = c.args.service.now.geometry.numbers in
-    misfit_run numbers c.args.self.now.number empty_hand (cleaning numbers (cleaner_of c.args.manner c.args.ino)) (told_as c.from_residual.result) _
-    part.Lists empty_hand (ap told_as (exit_is c.from_residual.result _ c.from_residual.ensures.1)) c.in_err-empty_hand.ensures.err
+    keeps numbers c.args.self.now.number (cleaning numbers (cleaner_of c.args.manner c.args.ino))
+    (held_by c.empty_hand.new.hand c.empty_hand.new.giving) (told_as c.from_residual.result) _
+    (ap told_as (exit_is c.from_residual.result _ c.from_residual.ensures.1)) c.in_err-empty_hand.ensures.err c.in_err-empty_hand.ensures.kept
 
 pub returns-in_err-give_back-clause-run : goal.returns-in_err-give_back-clause-run
 returns-in_err-give_back-clause-run g c =
     let numbers = c.args.service.now.geometry.numbers in
     let exit = c.from_residual-in_err-give_back in
-    misfit_run numbers c.args.self.now.number empty_hand (cleaning numbers (cleaner_of c.args.manner c.args.ino)) (told_as exit.result) _ part.Lists
-    empty_hand (ap told_as (exit_is exit.result _ exit.ensures.1)) c.in_err-give_back.ensures.err
+    keeps numbers c.args.self.now.number (cleaning numbers (cleaner_of c.args.manner c.args.ino))
+    (held_by c.give_back.new.hand c.give_back.new.giving) (told_as exit.result) _ (ap told_as (exit_is exit.result _ exit.ensures.1))
+    c.in_err-give_back.ensures.err c.in_err-give_back.ensures.kept
 
 -- the number has no slot
 pub returns-then-number-service-clause-run : goal.returns-then-number-service-clause-run
 returns-then-number-service-clause-run g c =
-    stale_at_once c.args.service.now.geometry.numbers c.args.self.now.number c.args.manner c.args.ino (omega (arith, c.if-number-service.true, c.number.ensures))
+    inr (stale_at_once c.args.service.now.geometry.numbers c.args.self.now.number c.args.manner c.args.ino (omega (arith, c.if-number-service.true, c.number.ensures)))
 
 -- a turn refuses it
 pub returns-in_err-cleaned-clause-run : goal.returns-in_err-cleaned-clause-run
@@ -46,9 +48,9 @@ returns-in_err-cleaned-clause-run g c =
     let after = hand_of c.give_back.new.hand in
     let is = subst (λ (e : Result Cleaned Fault). IsCleaned numbers number empty_hand start e before) c.in_err-cleaned.was
     c.clean_log-cleaned.ensures.run in
-    seated numbers number empty_hand start c.args.self.now.number _ (told_as exit.result) after (ap (λ (s : SessionValue). s.number) c.self.view_is)
+    inr (seated numbers number empty_hand start c.args.self.now.number _ (told_as exit.result) after (ap (λ (s : SessionValue). s.number) c.self.view_is)
     (nothing_in c.give_back.new.hand back.ok) (ap told_as (exit_is exit.result _ exit.ensures.1))
-    (refused_run numbers number empty_hand start before after _ is (λ r unlocks. back.run number empty_hand start r unlocks))
+    (refused_run numbers number empty_hand start before after _ is (λ r unlocks. back.run number empty_hand start r unlocks)))
 
 -- it has cleaned
 pub returns-clause-run : goal.returns-clause-run
@@ -62,6 +64,6 @@ returns-clause-run g c =
     let cleaned = c.in_ok-cleaned.cleaned in
     let told : Result Answer Fault = Ok (answers.Cleaned cleaned.thorough cleaned.entries cleaned.pages) in
     let is = subst (λ (e : Result Cleaned Fault). IsCleaned numbers number empty_hand start e before) c.in_ok-cleaned.was c.clean_log-cleaned.ensures.run in
-    seated numbers number empty_hand start c.args.self.now.number told told after (ap (λ (s : SessionValue). s.number) c.self.view_is)
+    inr (seated numbers number empty_hand start c.args.self.now.number told told after (ap (λ (s : SessionValue). s.number) c.self.view_is)
     (nothing_in c.give_back.new.hand back.ok) refl
-    (cleaned_run numbers number empty_hand start before after cleaned is (λ r unlocks. back.run number empty_hand start r unlocks))
+    (cleaned_run numbers number empty_hand start before after cleaned is (λ r unlocks. back.run number empty_hand start r unlocks)))

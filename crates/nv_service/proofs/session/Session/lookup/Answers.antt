@@ -30,3 +30,4 @@ pub returns-in_err-cell-clause-run : goal.returns-in_err-cell-clause-run
 returns-in_err-cell-clause-run g c =
     not_held c.args.service.now.geometry.numbers c.args.self.now.number c.args.dir.ino (call.Lookup c.args.dir c.args.name) refl refl c.from_residual.result _
     (exit_is c.from_residual.result _ c.from_residual.ensures.1) c.in_err-cell.ensures.err c.in_err-cell.ensures.stale
+    c.in_err-cell.ensures.misplaced

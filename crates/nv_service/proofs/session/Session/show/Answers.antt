@@ -14,8 +14,8 @@ use Rattle.nv_service.proofs.session.Session.show.Goals as goal
 
 pub returns-clause-run : goal.returns-clause-run
 returns-clause-run g c =
-    show_run c.args.service.now.geometry.numbers c.args.self.now.number c.args.snapshot c.in_ok-first.first (Ok c.in_ok-first.first) refl
-    c.in_ok-first.ensures.turn c.show_tree-shown.result c.show_tree-shown.ensures.visits (Ok c.in_ok-answer.answer) c.in_ok-answer.ensures.turn
+    show_run c.args.service.now.geometry.numbers c.args.self.now.number c.args.snapshot c.in_ok-first.first c.in_ok-first.ensures.turn
+    c.show_tree-shown.result c.show_tree-shown.ensures.visits (Ok c.in_ok-answer.answer) c.in_ok-answer.ensures.turn
 
 pub returns-in_err-first-clause-run : goal.returns-in_err-first-clause-run
 returns-in_err-first-clause-run g c =
@@ -23,7 +23,7 @@ returns-in_err-first-clause-run g c =
     let actor = c.args.self.now.number in
     subst (λ (end : Result Seen Fault). IsShowRun numbers actor c.args.snapshot (told_as end))
     (sym (exit_is c.from_residual.result _ c.from_residual.ensures.1))
-    (not_pinned numbers actor c.args.snapshot _ _ refl c.in_err-first.ensures.turn c.in_err-first.ensures.err)
+    (not_pinned numbers actor c.args.snapshot _ c.in_err-first.ensures.turn c.in_err-first.ensures.err)
 
 pub returns-in_err-answer-clause-run : goal.returns-in_err-answer-clause-run
 returns-in_err-answer-clause-run g c =
@@ -31,7 +31,7 @@ returns-in_err-answer-clause-run g c =
     let actor = c.args.self.now.number in
     subst (λ (end : Result Seen Fault). IsShowRun numbers actor c.args.snapshot (told_as end))
     (sym (exit_is c.from_residual-in_err-answer.result _ c.from_residual-in_err-answer.ensures.1))
-    (show_run numbers actor c.args.snapshot c.in_ok-first.first (Ok c.in_ok-first.first) refl c.in_ok-first.ensures.turn
+    (show_run numbers actor c.args.snapshot c.in_ok-first.first c.in_ok-first.ensures.turn
     c.show_tree-shown.result c.show_tree-shown.ensures.visits (Err _) c.in_err-answer.ensures.turn)
 
 pub returns-clause-answer : goal.returns-clause-answer
