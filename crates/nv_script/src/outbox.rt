@@ -104,10 +104,13 @@ impl Outbox {
         Ok(())
     }
 
-    /// Gathers a text if there is room for it.
+    /// Gathers a text if there is room for it. One without bytes, as of most lines what stands before their answers, takes no copy.
     fn gather(&mut self, text: &[u8]) -> bool
         ensures { Gathers result self.old text.now self.new }
     {
+        if text.is_empty() {
+            return true;
+        }
         if text.len() > self.gathered.capacity() - self.gathered.len() {
             return false;
         }
