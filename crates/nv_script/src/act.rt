@@ -23,7 +23,8 @@ use crate::text::{
 };
 use crate::trace::{self, Trace};
 use crate::trees::write_tree_behind;
-use crate::word::words;
+use crate::word::words_in;
+use arrayvec::ArrayVec;
 use nv_base::{Epoch, Fault, Geometry, GeometryNumbers, Ino};
 use nv_core::{Reply, World};
 use std::alloc::{AllocError, Global};
@@ -87,17 +88,19 @@ pub(crate) fn play_line<W: CountedWrite>(
     if is_skipped(line) {
         return Ok(None);
     }
-    let words = words(alloc, line)?;
+    let mut few = ArrayVec::new();
+    let mut many = Vec::new(alloc);
+    let words = words_in(alloc, line, &mut few, &mut many)?;
     let head = telling.head;
     match world {
         None => {
-            let numbers = read_format(words.as_slice())?;
+            let numbers = read_format(words)?;
             format(alloc, world, &numbers, out)?;
             outbox.add(writer, head)?;
             Ok(None)
         }
         Some(world) => {
-            let command = read_command(alloc, words.as_slice())?;
+            let command = read_command(alloc, words)?;
             match command {
                 Command::Tree => {
                     write_tree_behind(head, world, None, out, outbox, writer)?;

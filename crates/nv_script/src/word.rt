@@ -1,6 +1,6 @@
 //! The words of a line, and what a word spells: a number, a mode, a handle, escaped bytes.
 
-ghost use Rattle.std.specs.Prelude.{◌≡◌, ◌+◌, ◌<◌, ◌≤◌, ◌++◌, ◌∷◌, ℕ, List, false, length, map, IfOk, IfSome, OnOk, MatchOption, decimal, take, true, vec_len, vec_capacity};
+ghost use Rattle.std.specs.Prelude.{◌≡◌, ◌+◌, ◌<◌, ◌≤◌, ◌++◌, ◌∷◌, ℕ, List, [], false, length, map, IfOk, IfSome, IsTrue, OnOk, MatchOption, decimal, take, true, vec_len, vec_capacity};
 ghost use Rattle.std.specs.List.{All, list_all};
 ghost use Rattle.std.specs.Fmt.{digit_glyph};
 ghost use Rattle.nv_base.specs.declared.limits.TheConstants.{MODE};
@@ -8,6 +8,7 @@ ghost use Rattle.nv_script.specs.Words.{number_of, number_up_to, positive_up_to,
 ghost use Rattle.nv_script.specs.Grammar.{texts, word_at};
 ghost use Rattle.nv_script.specs.Printed.{ArePrinted};
 
+use arrayvec::ArrayVec;
 use memchr::memchr;
 use nv_base::{Bytes, Gen, Handle, Ino, Mode, limits};
 use std::alloc::{AllocError, Global};
@@ -106,6 +107,44 @@ pub fn words(alloc: Global, line: &[u8]) -> Result<Vec<&[u8]>, AllocError>
     }
     found.push(rest)?;
     Ok(found)
+}
+
+/// Cuts a line of few words into them, which takes no memory, and says whether it is one: with more words it finds the first ones.
+fn find_few<'a>(line: &'a [u8], found: &mut ArrayVec<&'a [u8], MOST_WORDS>) -> bool
+    requires { found.old.items ≡ [] }
+    ensures { IsTrue result → map (λ w. w.now) found.new.items ≡ words_of line.now }
+{
+    let mut rest = line;
+    while let Some(space) = memchr(b' ', rest) {
+        if found.is_full() {
+            return false;
+        }
+        found.push(&rest[..space]);
+        rest = &rest[space + 1..];
+    }
+    if found.is_full() {
+        return false;
+    }
+    found.push(rest);
+    true
+}
+
+/// The words of a line, as [`words`] cuts it, where they are found: in `few`, which is empty before, or, of a line with more words than
+/// one without a fault has, in `many`.
+pub(crate) fn words_in<'a, 'w>(
+    alloc: Global,
+    line: &'a [u8],
+    few: &'w mut ArrayVec<&'a [u8], MOST_WORDS>,
+    many: &'w mut Vec<&'a [u8]>,
+) -> Result<&'w [&'a [u8]], AllocError>
+    requires { few.old.items ≡ [] }
+    ensures { IfOk result (λ found. texts found.now ≡ words_of line.now) }
+{
+    if find_few(line, few) {
+        return Ok(few.as_slice());
+    }
+    *many = words(alloc, line)?;
+    Ok(many.as_slice())
 }
 
 /// The word at a place, which has no bytes where there is none.

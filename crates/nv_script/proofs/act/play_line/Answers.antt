@@ -1,4 +1,4 @@
-use Rattle.std.proofs.Common.{◌≡◌, ◌∙◌, [], Option, None, Err, Ok, Some, ap, is_some, refl, rules, subst, sym}
+use Rattle.std.proofs.Common.{◌≡◌, ◌∙◌, [], Option, None, Err, Ok, Some, ap, is_some, refl, subst, sym}
 use Rattle.std.proofs.lemmas.Result.{err_from_is_err_and}
 use Rattle.nv_script.specs.declared.command.Command.TheVariants as command
 use Rattle.nv_core.specs.Worlds.{WorldState}
@@ -18,7 +18,7 @@ returns-in_err-format-in-None-clause-line g c =
 
 pub returns-in_err-add-in-None-clause-line : goal.returns-in_err-add-in-None-clause-line
 returns-in_err-add-in-None-clause-line g c =
-    let words : texts c.as_slice.result.now ≡ words_of c.args.line.now = search (rules) in
+    let words : texts c.in_ok-words.words.now ≡ words_of c.args.line.now = c.in_ok-words.ensures in
     let p = err_from_is_err_and c.from_residual-in_err-add-in-None.result c.from_residual-in_err-add-in-None.ensures.1 in
     let plays = formats c.args.telling.trace c.args.telling.number c.args.world.now c.format.new.world c.args.line.now c.format.new.out.items c.in_ok-numbers-in-None.numbers
     c.requires.form c.in-None.is (sym c.is_skipped.ensures ∙ c.if-is_skipped.false)
@@ -28,7 +28,7 @@ returns-in_err-add-in-None-clause-line g c =
 
 pub returns-in-None-clause-line : goal.returns-in-None-clause-line
 returns-in-None-clause-line g c =
-    let words : texts c.as_slice.result.now ≡ words_of c.args.line.now = search (rules) in
+    let words : texts c.in_ok-words.words.now ≡ words_of c.args.line.now = c.in_ok-words.ensures in
     let plays = formats c.args.telling.trace c.args.telling.number c.args.world.now c.format.new.world c.args.line.now c.format.new.out.items c.in_ok-numbers-in-None.numbers
     c.requires.form c.in-None.is (sym c.is_skipped.ensures ∙ c.if-is_skipped.false)
     (ap format_of (sym words) ∙ sym c.in_ok-numbers-in-None.ensures) c.in_ok-format-in-None.ensures in
@@ -36,8 +36,8 @@ returns-in-None-clause-line g c =
 
 pub returns-in_err-write_tree_behind-in-Tree-clause-line : goal.returns-in_err-write_tree_behind-in-Tree-clause-line
 returns-in_err-write_tree_behind-in-Tree-clause-line g c =
-    let words : texts c.as_slice-in-Some.result.now ≡ words_of c.args.line.now = search (rules) in
-    let read : command_of (texts c.as_slice-in-Some.result.now) ≡ Ok c.in_ok-command-in-Some.command = c.in_ok-command-in-Some.ensures in
+    let words : texts c.in_ok-words.words.now ≡ words_of c.args.line.now = c.in_ok-words.ensures in
+    let read : command_of (texts c.in_ok-words.words.now) ≡ Ok c.in_ok-command-in-Some.command = c.in_ok-command-in-Some.ensures in
     let p = err_from_is_err_and c.from_residual-in_err-write_tree_behind-in-Tree.result
     c.from_residual-in_err-write_tree_behind-in-Tree.ensures.1 in
     rw (p.1, p.2) (lists_line c.args.telling.trace c.args.telling.number c.args.telling.head.now (Err c.in_err-write_tree_behind-in-Tree.field-0.0) _ _ c.args.world.now c.in-Some.world
@@ -46,8 +46,8 @@ returns-in_err-write_tree_behind-in-Tree-clause-line g c =
 
 pub returns-in-Tree-clause-line : goal.returns-in-Tree-clause-line
 returns-in-Tree-clause-line g c =
-    let words : texts c.as_slice-in-Some.result.now ≡ words_of c.args.line.now = search (rules) in
-    let read : command_of (texts c.as_slice-in-Some.result.now) ≡ Ok c.in_ok-command-in-Some.command = c.in_ok-command-in-Some.ensures in
+    let words : texts c.in_ok-words.words.now ≡ words_of c.args.line.now = c.in_ok-words.ensures in
+    let read : command_of (texts c.in_ok-words.words.now) ≡ Ok c.in_ok-command-in-Some.command = c.in_ok-command-in-Some.ensures in
     let to : Sent = record {
       written = g.W.CountedWrite.contents c.write_tree_behind.new.writer;
       gathered = c.write_tree_behind.new.outbox;
@@ -58,14 +58,14 @@ returns-in-Tree-clause-line g c =
 
 pub returns-in-Tree-clause-asked : goal.returns-in-Tree-clause-asked
 returns-in-Tree-clause-asked g c = λ asks.
-    let words : texts c.as_slice-in-Some.result.now ≡ words_of c.args.line.now = search (rules) in
-    let read : command_of (texts c.as_slice-in-Some.result.now) ≡ Ok c.in_ok-command-in-Some.command = c.in_ok-command-in-Some.ensures in
+    let words : texts c.in_ok-words.words.now ≡ words_of c.args.line.now = c.in_ok-words.ensures in
+    let read : command_of (texts c.in_ok-words.words.now) ≡ Ok c.in_ok-command-in-Some.command = c.in_ok-command-in-Some.ensures in
     other_asks command.Tree c.args.world.now c.args.line.now (ap command_of (sym words) ∙ read ∙ ap Ok c.in-Tree.is) refl asks
 
 pub returns-in_err-write_tree_behind-in-SnapTree-clause-line : goal.returns-in_err-write_tree_behind-in-SnapTree-clause-line
 returns-in_err-write_tree_behind-in-SnapTree-clause-line g c =
-    let words : texts c.as_slice-in-Some.result.now ≡ words_of c.args.line.now = search (rules) in
-    let read : command_of (texts c.as_slice-in-Some.result.now) ≡ Ok c.in_ok-command-in-Some.command = c.in_ok-command-in-Some.ensures in
+    let words : texts c.in_ok-words.words.now ≡ words_of c.args.line.now = c.in_ok-words.ensures in
+    let read : command_of (texts c.in_ok-words.words.now) ≡ Ok c.in_ok-command-in-Some.command = c.in_ok-command-in-Some.ensures in
     let p = err_from_is_err_and c.from_residual-in_err-write_tree_behind-in-SnapTree.result
     c.from_residual-in_err-write_tree_behind-in-SnapTree.ensures.1 in
     rw (p.1, p.2) (lists_line c.args.telling.trace c.args.telling.number c.args.telling.head.now (Err c.in_err-write_tree_behind-in-SnapTree.field-0.0) _ _ c.args.world.now c.in-Some.world
@@ -75,8 +75,8 @@ returns-in_err-write_tree_behind-in-SnapTree-clause-line g c =
 
 pub returns-in-SnapTree-clause-line : goal.returns-in-SnapTree-clause-line
 returns-in-SnapTree-clause-line g c =
-    let words : texts c.as_slice-in-Some.result.now ≡ words_of c.args.line.now = search (rules) in
-    let read : command_of (texts c.as_slice-in-Some.result.now) ≡ Ok c.in_ok-command-in-Some.command = c.in_ok-command-in-Some.ensures in
+    let words : texts c.in_ok-words.words.now ≡ words_of c.args.line.now = c.in_ok-words.ensures in
+    let read : command_of (texts c.in_ok-words.words.now) ≡ Ok c.in_ok-command-in-Some.command = c.in_ok-command-in-Some.ensures in
     let to : Sent = record {
       written = g.W.CountedWrite.contents c.write_tree_behind-in-SnapTree.new.writer;
       gathered = c.write_tree_behind-in-SnapTree.new.outbox;
@@ -88,8 +88,8 @@ returns-in-SnapTree-clause-line g c =
 
 pub returns-in-SnapTree-clause-asked : goal.returns-in-SnapTree-clause-asked
 returns-in-SnapTree-clause-asked g c = λ asks.
-    let words : texts c.as_slice-in-Some.result.now ≡ words_of c.args.line.now = search (rules) in
-    let read : command_of (texts c.as_slice-in-Some.result.now) ≡ Ok c.in_ok-command-in-Some.command = c.in_ok-command-in-Some.ensures in
+    let words : texts c.in_ok-words.words.now ≡ words_of c.args.line.now = c.in_ok-words.ensures in
+    let read : command_of (texts c.in_ok-words.words.now) ≡ Ok c.in_ok-command-in-Some.command = c.in_ok-command-in-Some.ensures in
     other_asks (command.SnapTree c.in-SnapTree.s) c.args.world.now c.args.line.now
     (ap command_of (sym words) ∙ read ∙ ap Ok c.in-SnapTree.is) refl asks
 
@@ -101,8 +101,8 @@ returns-in_err-asked-in_default-clause-line g c =
 
 pub returns-in_err-add-in_default-clause-line : goal.returns-in_err-add-in_default-clause-line
 returns-in_err-add-in_default-clause-line g c =
-    let words : texts c.as_slice-in-Some.result.now ≡ words_of c.args.line.now = search (rules) in
-    let read : command_of (texts c.as_slice-in-Some.result.now) ≡ Ok c.in_ok-command-in-Some.command = c.in_ok-command-in-Some.ensures in
+    let words : texts c.in_ok-words.words.now ≡ words_of c.args.line.now = c.in_ok-words.ensures in
+    let read : command_of (texts c.in_ok-words.words.now) ≡ Ok c.in_ok-command-in-Some.command = c.in_ok-command-in-Some.ensures in
     let p = err_from_is_err_and c.from_residual-in_err-add-in_default.result c.from_residual-in_err-add-in_default.ensures.1 in
     let plays = played c.args.telling.trace c.args.telling.number c.args.world.now c.in-Some.world c.act.new.world c.args.line.now c.act.new.out.items
     c.in_ok-command-in-Some.command c.in-Some.is (sym c.is_skipped.ensures ∙ c.if-is_skipped.false)
@@ -112,8 +112,8 @@ returns-in_err-add-in_default-clause-line g c =
 
 pub returns-clause-line : goal.returns-clause-line
 returns-clause-line g c =
-    let words : texts c.as_slice-in-Some.result.now ≡ words_of c.args.line.now = search (rules) in
-    let read : command_of (texts c.as_slice-in-Some.result.now) ≡ Ok c.in_ok-command-in-Some.command = c.in_ok-command-in-Some.ensures in
+    let words : texts c.in_ok-words.words.now ≡ words_of c.args.line.now = c.in_ok-words.ensures in
+    let read : command_of (texts c.in_ok-words.words.now) ≡ Ok c.in_ok-command-in-Some.command = c.in_ok-command-in-Some.ensures in
     let plays = played c.args.telling.trace c.args.telling.number c.args.world.now c.in-Some.world c.act.new.world c.args.line.now c.act.new.out.items
     c.in_ok-command-in-Some.command c.in-Some.is (sym c.is_skipped.ensures ∙ c.if-is_skipped.false)
     (ap command_of (sym words) ∙ read) c.in_ok-asked-in_default.ensures.acts in
@@ -121,8 +121,8 @@ returns-clause-line g c =
 
 pub returns-clause-asked : goal.returns-clause-asked
 returns-clause-asked g c = λ asks.
-    let words : texts c.as_slice-in-Some.result.now ≡ words_of c.args.line.now = search (rules) in
-    let read : command_of (texts c.as_slice-in-Some.result.now) ≡ Ok c.in_ok-command-in-Some.command = c.in_ok-command-in-Some.ensures in
+    let words : texts c.in_ok-words.words.now ≡ words_of c.args.line.now = c.in_ok-words.ensures in
+    let read : command_of (texts c.in_ok-words.words.now) ≡ Ok c.in_ok-command-in-Some.command = c.in_ok-command-in-Some.ensures in
     c.in_ok-asked-in_default.ensures.asked (asks_by c.args.world.now c.args.line.now _ (ap command_of (sym words) ∙ read) asks)
 
 pub returns-in-None-clause-asked : goal.returns-in-None-clause-asked
@@ -134,10 +134,10 @@ returns-then-is_skipped-clause-asked g c = λ asks.
 
 pub returns-in_err-command-in-Some-clause-line : goal.returns-in_err-command-in-Some-clause-line
 returns-in_err-command-in-Some-clause-line g c =
-    let words : texts c.as_slice-in-Some.result.now ≡ words_of c.args.line.now = search (rules) in
+    let words : texts c.in_ok-words.words.now ≡ words_of c.args.line.now = c.in_ok-words.ensures in
     let p = err_from_is_err_and c.from_residual-in_err-command-in-Some.result c.from_residual-in_err-command-in-Some.ensures.1 in
     rw (p.1, p.2) (unread c.args.telling.trace c.args.telling.number c.args.telling.head.now c.in_err-command-in-Some.field-0.0 _
-    c.args.world.now c.args.line.now c.clear.new.self.items (Some c.in-Some.world) (command_of (texts c.as_slice-in-Some.result.now))
+    c.args.world.now c.args.line.now c.clear.new.self.items (Some c.in-Some.world) (command_of (texts c.in_ok-words.words.now))
     (sym c.is_skipped.ensures ∙ c.if-is_skipped.false) c.in_err-command-in-Some.ensures
     (λ kind is. subst (λ (w : Option WorldState). WordsFail (is_some w) (words_of c.args.line.now) kind) (sym c.in-Some.is)
     (ap command_of (sym words) ∙ is)))
