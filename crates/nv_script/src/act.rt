@@ -1,7 +1,7 @@
 //! What lines do to a world, and what they write.
 
 ghost use Rattle.std.specs.Prelude.{◌≡◌, ◌≢◌, ◌<◌, ◌+◌, ◌-◌, ◌^◌, ◌++◌, [], None, IfOk, MatchResult, OnOk, false, true};
-ghost use Rattle.nv_script.specs.Grammar.{is_skipped};
+ghost use Rattle.nv_script.specs.Grammar.{is_skipped, texts};
 ghost use Rattle.nv_base.specs.Limits.{first_bad_field};
 ghost use Rattle.nv_script.specs.declared.command.Command.TheVariants.{Audit};
 ghost use Rattle.nv_script.specs.declared.trace.Trace.TheVariants as trace;
@@ -10,6 +10,7 @@ ghost use Rattle.nv_script.specs.Results.{AsksAudit, IsNewWorld, LineIs, MakesWo
 ghost use Rattle.nv_script.specs.Trace.{ActsToldBy, ActsTracedBy, answer_by};
 ghost use Rattle.nv_core.specs.Worlds.{Leads, told_by};
 ghost use Rattle.nv_script.specs.Texts.{told_line};
+ghost use Rattle.nv_script.specs.Words.{words_of};
 
 use crate::asked::Asked;
 use crate::command::{Command, is_skipped, read_command, read_format};
@@ -23,7 +24,7 @@ use crate::text::{
 };
 use crate::trace::{self, Trace};
 use crate::trees::write_tree_behind;
-use crate::word::words_in;
+use crate::word::{find_few, words};
 use arrayvec::ArrayVec;
 use nv_base::{Epoch, Fault, Geometry, GeometryNumbers, Ino};
 use nv_core::{Reply, World};
@@ -89,8 +90,48 @@ pub(crate) fn play_line<W: CountedWrite>(
         return Ok(None);
     }
     let mut few = ArrayVec::new();
-    let mut many = Vec::new(alloc);
-    let words = words_in(alloc, line, &mut few, &mut many)?;
+    if find_few(line, &mut few) {
+        let words = few.as_slice();
+        return play_words(alloc, world, line, words, telling, out, outbox, writer);
+    }
+    let many = words(alloc, line)?;
+    play_words(
+        alloc,
+        world,
+        line,
+        many.as_slice(),
+        telling,
+        out,
+        outbox,
+        writer,
+    )
+}
+
+/// Plays one line by its words, as [`play_line`] does.
+fn play_words<W: CountedWrite>(
+    alloc: Global,
+    world: &mut Option<World>,
+    line: &[u8],
+    words: &[&[u8]],
+    telling: Telling<'_>,
+    out: &mut Vec<u8>,
+    outbox: &mut Outbox,
+    writer: &mut W,
+) -> Result<Option<Asked>, LineFault>
+    requires form { telling.trace ≢ trace.Json }
+    requires command { is_skipped line.now ≡ false }
+    requires words { texts words.now ≡ words_of line.now }
+    requires empty { out.old.items ≡ [] }
+    requires failures { W.failed writer.old < 2 ^ 64 - 1 }
+    ensures line { LineIs telling.entry.trace telling.entry.number telling.entry.head.now result
+        (record { written = W.contents writer.old; gathered = outbox.old })
+        (record { written = W.contents writer.new; gathered = outbox.new })
+        world.old line.now out.new.items world.new }
+    ensures asked { IfOk result (λ asked.
+        AsksAudit world.old line.now → TellsAudit asked out.new.items) }
+    ensures failed { W.failed writer.new ≡ W.failed writer.old + failed_in_line result }
+    ensures same_writer { W.place writer.new ≡ W.place writer.old }
+{
     let head = telling.head;
     match world {
         None => {

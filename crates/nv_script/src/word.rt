@@ -109,8 +109,8 @@ pub fn words(alloc: Global, line: &[u8]) -> Result<Vec<&[u8]>, AllocError>
     Ok(found)
 }
 
-/// Cuts a line of few words into them, which takes no memory, and says whether it is one: with more words it finds the first ones.
-fn find_few<'a>(line: &'a [u8], found: &mut ArrayVec<&'a [u8], MOST_WORDS>) -> bool
+/// Cuts a line of few words into them, which takes no memory, and says whether it is one. Of more words it finds the first ones.
+pub(crate) fn find_few<'a>(line: &'a [u8], found: &mut ArrayVec<&'a [u8], MOST_WORDS>) -> bool
     requires { found.old.items ≡ [] }
     ensures { IsTrue result → map (λ w. w.now) found.new.items ≡ words_of line.now }
 {
@@ -127,24 +127,6 @@ fn find_few<'a>(line: &'a [u8], found: &mut ArrayVec<&'a [u8], MOST_WORDS>) -> b
     }
     found.push(rest);
     true
-}
-
-/// The words of a line, as [`words`] cuts it, where they are found: in `few`, which is empty before, or, of a line with more words than
-/// one without a fault has, in `many`.
-pub(crate) fn words_in<'a, 'w>(
-    alloc: Global,
-    line: &'a [u8],
-    few: &'w mut ArrayVec<&'a [u8], MOST_WORDS>,
-    many: &'w mut Vec<&'a [u8]>,
-) -> Result<&'w [&'a [u8]], AllocError>
-    requires { few.old.items ≡ [] }
-    ensures { IfOk result (λ found. texts found.now ≡ words_of line.now) }
-{
-    if find_few(line, few) {
-        return Ok(few.as_slice());
-    }
-    *many = words(alloc, line)?;
-    Ok(many.as_slice())
 }
 
 /// The word at a place, which has no bytes where there is none.
