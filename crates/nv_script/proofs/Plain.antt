@@ -1,7 +1,6 @@
 -- Plain bytes in front of others.
-use Rattle.std.proofs.Common.{◌≡◌, ℕ, zero, suc, ◌+◌, ◌&&◌, Bool, true, false, List, [], ◌∷◌, ◌++◌, take, drop, Option, Some, None, option_map, refl, sym, ap, ◌∙◌, append_assoc, decimal, arith, ◌≤◌, ◌<◌, ◌^◌, ◌/◌, ◌%◌}
-use Rattle.std.proofs.lemmas.Fmt.{decimal_step}
-use Rattle.std.proofs.lemmas.List.{take-append-drop}
+use Rattle.std.proofs.Common.{◌≡◌, ℕ, zero, suc, ◌+◌, ◌&&◌, Bool, true, false, List, [], ◌∷◌, ◌++◌, take, drop, Option, Some, None, option_map, refl, sym, ap, ◌∙◌, append_assoc, arith}
+use Rattle.std.proofs.lemmas.List.{append-nil, take-append-drop}
 use Rattle.std.specs.List.{list_all}
 use Rattle.nv_script.specs.Words.{is_plain, before, unescaped, unescaped_behind, escaped}
 use Rattle.nv_script.proofs.Escapes.{unescaped-plain}
@@ -71,9 +70,12 @@ read-plain bytes front count plain =
     ∙ ap (λ (more : Option (List ℕ)). option_map (λ m. front ++ m) more)
     (sym (unescaped-front (take count bytes) (drop count bytes) plain) ∙ ap unescaped (take-append-drop count bytes))
 
--- a digit more is printed
-pub decimal-more : (start front whole : List ℕ) (number : ℕ) → 10 ≤ number → number < 2 ^ 64 → front ≡ start ++ decimal (number / 10)
-    → whole ≡ front ++ (48 + number % 10) ∷ [] → whole ≡ start ++ decimal number
-decimal-more start front whole number long fits so_far last =
-    last ∙ ap (λ (text : List ℕ). text ++ (48 + number % 10) ∷ []) so_far ∙ append_assoc start (decimal (number / 10)) _
-    ∙ ap (λ (text : List ℕ). start ++ text) (sym (decimal_step number long fits))
+-- plain bytes alone stand for themselves
+pub unescaped-whole : (bytes : List ℕ) → list_all is_plain bytes ≡ true → unescaped_behind [] bytes ≡ Some bytes
+unescaped-whole bytes plain =
+    sym (nothing-front (unescaped bytes)) ∙ ap unescaped (sym (append-nil bytes)) ∙ unescaped-front bytes [] plain
+    ∙ ap (λ (text : List ℕ). Some text) (append-nil bytes)
+
+-- and are printed as they are
+pub escaped-whole : (bytes : List ℕ) → list_all is_plain bytes ≡ true → escaped bytes ≡ bytes
+escaped-whole bytes plain = ap escaped (sym (append-nil bytes)) ∙ escaped-plain bytes [] plain ∙ append-nil bytes

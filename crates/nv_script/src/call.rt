@@ -127,7 +127,7 @@ impl CallWord {
         ensures { result ≡ named_among all_calls name.now }
     {
         for call in CallWord::ALL {
-            if name == call.row().name {
+            if name == call.name() {
                 return Some(call);
             }
         }

@@ -9,6 +9,7 @@ ghost use Rattle.nv_script.specs.Grammar.{texts, word_at};
 ghost use Rattle.nv_script.specs.Printed.{ArePrinted};
 
 use arrayvec::ArrayVec;
+use itoa::write_digits;
 use memchr::memchr;
 use nv_base::{Bytes, Gen, Handle, Ino, Mode, limits};
 use std::alloc::{AllocError, Global};
@@ -221,13 +222,16 @@ fn push_plain<'a>(out: &mut Vec<u8>, bytes: &'a [u8]) -> Result<&'a [u8], AllocE
     Ok(rest)
 }
 
-/// The bytes that a word of escaped text stands for. It has one or more.
+/// The bytes that a word of escaped text stands for. It has one or more. Plain ones are copied as they are.
 pub fn text(alloc: Global, word: &[u8]) -> Result<Option<Bytes>, AllocError>
     // A word is read as text exactly where it spells one.
     ensures { IfOk result (λ t. t ≡ text_of word.now) }
 {
     if word.is_empty() {
         return Ok(None);
+    }
+    if all_plain(word) {
+        return Ok(Some(Bytes::from_vec(Vec::from_slice(alloc, word)?)));
     }
     let mut bytes = Vec::with_capacity(alloc, word.len())?;
     let mut rest = push_plain(&mut bytes, word)?;
@@ -281,12 +285,15 @@ fn push_piece(out: &mut Vec<u8>, piece: &[u8]) -> Result<(), AllocError>
     Ok(())
 }
 
-/// Adds bytes as they are printed. Plain ones in front are copied together, and so are those behind each piece that
-/// begins with another.
+/// Adds bytes as they are printed. Where all are plain they are copied together. Else those in front are, and those behind each piece
+/// that begins with another.
 pub fn push_escaped(out: &mut Vec<u8>, bytes: &[u8]) -> Result<(), AllocError>
     // Bytes are printed escaped, and numbers in decimal digits.
     ensures { OnOk result (out.new.items ≡ out.old.items ++ escaped bytes.now) }
 {
+    if all_plain(bytes) {
+        return out.extend_from_slice(bytes);
+    }
     let mut rest = push_plain(out, bytes)?;
     while !rest.is_empty() {
         let (piece, after) = rest.split_at(PIECE.min(rest.len()));
@@ -300,10 +307,9 @@ pub fn push_escaped(out: &mut Vec<u8>, bytes: &[u8]) -> Result<(), AllocError>
 pub fn push_number(out: &mut Vec<u8>, number: u64) -> Result<(), AllocError>
     ensures { OnOk result (out.new.items ≡ out.old.items ++ decimal number) }
 {
-    if number >= 10 {
-        push_number(out, number / 10)?;
-    }
-    Ok(out.push(b'0' + (number % 10) as u8)?)
+    let mut digits = [0; MAX_DIGITS];
+    let start = write_digits(number, &mut digits, MAX_DIGITS);
+    out.extend_from_slice(&digits[start..])
 }
 
 /// A law: printed text reads back as the bytes that were printed.

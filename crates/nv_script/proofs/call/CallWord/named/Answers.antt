@@ -8,4 +8,4 @@ pub loop-call-preserved : goal.loop-call-preserved
 loop-call-preserved c =
     c.loop-call.invariant
     ∙ named-skip all_calls c.loop-call.call-index Create c.args.name.now c.loop-call-test.true
-    (ap (bytes_eq c.args.name.now) (sym c.row.ensures.name) ∙ sym c.eq.ensures ∙ c.if-eq.false)
+    (ap (bytes_eq c.args.name.now) (sym c.name.ensures) ∙ sym c.eq.ensures ∙ c.if-eq.false)
