@@ -1,5 +1,5 @@
 -- The first place of a byte among many.
-use Rattle.std.proofs.Common.{◌≡◌, ◌≢◌, ◌+◌, ◌-◌, ◌==◌, ◌++◌, not, ℕ, Bool, Option, Some, None, unwrap_or, true, false, cond, List, [], ◌∷◌, length, take, drop, map, get_or, suc, refl, sym, subst, ap, append_assoc, ◌∙◌, arith}
+use Rattle.std.proofs.Common.{◌≡◌, ◌≢◌, ◌<◌, ◌+◌, ◌-◌, ◌==◌, ◌++◌, not, ℕ, Bool, Option, Some, None, unwrap_or, true, false, cond, List, [], ◌∷◌, length, take, drop, map, get_or, suc, refl, sym, subst, ap, append_assoc, ◌∙◌, arith}
 use Rattle.std.specs.List.{position_or_len}
 use Rattle.std.proofs.lemmas.Bool.{false_from_ne_true}
 use Rattle.std.proofs.lemmas.Bool.Decides.{nat_tests}
@@ -8,7 +8,7 @@ use Rattle.std.proofs.lemmas.List.Elements.{All-from_get_or}
 use Rattle.std.proofs.lemmas.List.Splits.{slice_split_first, slice_split_none}
 use Rattle.std.proofs.lemmas.List.Sums.{position_or_len_is}
 use Rattle.memchr.specs.Find.{IsFirstByte, is_byte}
-use Rattle.nv_script.specs.Lines.{HasNoEnd}
+use Rattle.nv_script.specs.Lines.{EndsLine, HasNoEnd}
 use Rattle.nv_script.specs.Words.{words_of}
 
 -- the place that a search finds, or the end, as a number
@@ -75,3 +75,11 @@ HasNoEnd-before (byte ∷ bytes) =
           let next : suc (position_or_len (λ c. c == 10) bytes) ≡ 1 + position_or_len (λ c. c == 10) bytes = omega arith in
           subst (λ (n : ℕ). HasNoEnd (take n (byte ∷ bytes))) next (no_end byte h, HasNoEnd-before bytes)
     ] refl
+
+is_end : (byte : ℕ) → is_byte 10 byte ≡ true → byte ≡ 10
+is_end byte is = grind (arith, nat_tests)
+
+-- the place behind a line end
+pub EndsLine-last : (bytes : List ℕ) (last : ℕ) → last < length bytes → is_byte 10 (get_or bytes last 0) ≡ true → EndsLine bytes (last + 1)
+EndsLine-last bytes last within is = λ some.
+    let same : last + 1 - 1 ≡ last = omega arith in (omega arith, rw same (is_end (get_or bytes last 0) is))

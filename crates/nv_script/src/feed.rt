@@ -6,7 +6,7 @@ ghost use Rattle.std.specs.Io.KnownBytes.{prepend_known, Consumes, Keeps, IsAtEn
 ghost use Rattle.nv_script.specs.Lines.{EndsLine, HasNoEnd};
 
 use crate::counted::{CountedRead, ReadFailed};
-use memchr::memchr;
+use memchr::{memchr, memrchr};
 use std::alloc::{AllocError, Global};
 use std::marker::Model;
 
@@ -202,7 +202,8 @@ impl Feed {
 }
 
 /// How many bytes stand before the first line end.
-fn before_end(bytes: &[u8]) -> usize
+pub fn before_end(bytes: &[u8]) -> usize
+    // Before the first line end of some bytes none stands.
     ensures within { result ≤ length bytes.now }
     ensures clean { HasNoEnd (take result bytes.now) }
     ensures end { result < length bytes.now → slice_index bytes.now result ≡ LINE_END }
@@ -211,11 +212,12 @@ fn before_end(bytes: &[u8]) -> usize
 }
 
 /// The place behind the last line end of some bytes, or 0 where there is none.
-fn past_last_end(bytes: &[u8]) -> usize
+pub fn past_last_end(bytes: &[u8]) -> usize
+    // A place that is told to stand behind a line end does.
     ensures { EndsLine bytes.now result }
 {
-    bytes
-        .iter()
-        .rposition(|byte| *byte == LINE_END)
-        .map_or(0, |last| last + 1)
+    match memrchr(LINE_END, bytes) {
+        Some(last) => last + 1,
+        None => 0,
+    }
 }
