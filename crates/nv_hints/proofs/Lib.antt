@@ -1,4 +1,3 @@
-pub mod Counted
 pub mod Nearer
 pub mod Visible
 pub mod Windows

@@ -1,15 +1,17 @@
 //! The bytes of a script that were read last, from the beginning of a line on.
 
-ghost use Rattle.std.specs.Prelude.{◌≡◌, ◌++◌, ◌<◌, ◌≤◌, IfOk, IfSome, List, ℕ, drop, false, length, slice_index, take, true};
-ghost use Rattle.nv_script.specs.Lines.{EndsLine, HasNoEnd};
+ghost use Rattle.std.specs.Prelude.{◌≡◌, ◌++◌, ◌≤◌, IfOk, IfSome, List, ℕ, drop, false, length, true};
 ghost use Rattle.nv_hints.specs.Recent.{ends_in};
 
-use memchr::memchr;
+use nv_script::feed::{before_end, past_last_end};
 use std::alloc::{AllocError, Global};
 use std::marker::Model;
 
 /// The byte that ends a line.
 const LINE_END: u8 = b'\n';
+
+/// The most bytes whose ends are counted together: a byte has room for their number.
+const SPAN: usize = 224;
 
 /// The bytes that were read last, from the beginning of a line on, and how many lines stand before them.
 #[derive(Drop)]
@@ -127,35 +129,28 @@ impl Recent {
     }
 }
 
-/// How many bytes stand before the first line end.
-fn before_end(bytes: &[u8]) -> usize
-    ensures within { result ≤ length bytes.now }
-    ensures clean { HasNoEnd (take result bytes.now) }
-    ensures end { result < length bytes.now → slice_index bytes.now result ≡ LINE_END }
-{
-    memchr(LINE_END, bytes).unwrap_or(bytes.len())
-}
-
-/// The place behind the last line end of some bytes, or 0 where there is none.
-fn past_last_end(bytes: &[u8]) -> usize
-    ensures { EndsLine bytes.now result }
-{
-    bytes
-        .iter()
-        .rposition(|byte| *byte == LINE_END)
-        .map_or(0, |last| last + 1)
-}
-
 /// How many lines end in some bytes.
 fn count_ends(bytes: &[u8]) -> usize
     ensures { result ≡ ends_in bytes.now }
 {
     let mut count = 0;
     let mut rest = bytes;
-    while let Some(end) = memchr(LINE_END, rest) {
-        let (_line, behind) = rest.split_at(end + 1);
+    while !rest.is_empty() {
+        let (span, behind) = rest.split_at(SPAN.min(rest.len()));
+        count += usize::from(ends_in_span(span));
         rest = behind;
-        count += 1;
+    }
+    count
+}
+
+/// How many lines end in a span. Its bytes are looked at without a branch, so that many are counted at once.
+fn ends_in_span(span: &[u8]) -> u8
+    requires { length span.now ≤ SPAN }
+    ensures { result ≡ ends_in span.now }
+{
+    let mut count = 0;
+    for byte in span {
+        count += u8::from(*byte == LINE_END);
     }
     count
 }
