@@ -1,7 +1,7 @@
 """What tools/threads and tools/stress-threads begin with: a caller of the service in threads, from the texts in tools/threaded."""
 
+import os
 import pathlib
-import re
 import shutil
 import subprocess
 import sys
@@ -11,29 +11,19 @@ ROOT = pathlib.Path(__file__).resolve().parent.parent
 TEXTS = ROOT / "tools/threaded"
 CRATE = "nv_threaded"
 LIBRARIES = "nv_base nv_calls nv_core nv_service nv_script anyhow"
-# Functions that run under a lock from their beginning to their end: of each lock the file, the function, and the path of its symbol. The
-# compiler is asked to build them apart from those that call them. Of one that it puts into its caller all the same nothing is told.
+# Functions that run under a lock from their beginning to their end, by their paths. They are built apart from those that call them.
 HELD = {
-    "commit lock": [
-        ("nv_service/src/commit.rt", "commit_over", "nv_service::commit::commit_over"),
-        ("nv_service/src/book.rt", "drop_snapshot", "nv_service::book::LockedBook::drop_snapshot"),
-    ],
+    "commit lock": ["nv_service::commit::commit_over", "nv_service::book::LockedBook::drop_snapshot"],
     "files' locks": [
-        ("nv_service/src/guards.rt", "change_taken", "nv_service::guards::change_taken"),
-        ("nv_service/src/held.rt", "take_out", "nv_service::held::take_out"),
-        ("nv_service/src/held.rt", "put_back", "nv_service::held::put_back"),
-        ("nv_service/src/cleaners.rt", "clean_log", "nv_service::cleaners::clean_log"),
-        ("nv_calls/src/view.rt", "read_on", "nv_calls::view::read_on"),
-        ("nv_service/src/visits.rt", "see", "nv_service::session::Session::see"),
+        "nv_service::guards::change_taken",
+        "nv_service::held::take_out",
+        "nv_service::held::put_back",
+        "nv_service::cleaners::clean_log",
+        "nv_calls::view::read_on",
+        "nv_service::session::Session::see",
     ],
-    "lists' locks": [
-        ("nv_service/src/asking.rt", "take_from", "nv_service::asking::Asking::take_from"),
-        ("nv_service/src/giving_back.rt", "give_blocks", "nv_service::giving_back::Giving::give_blocks"),
-    ],
-    "pool's lock": [
-        ("nv_alloc/src/inode_pool.rt", "take", "nv_alloc::inode_pool::InodePool::take"),
-        ("nv_service/src/giving_back.rt", "put_back", "nv_service::giving_back::Giving::put_back"),
-    ],
+    "lists' locks": ["nv_service::asking::Asking::take_from", "nv_service::giving_back::Giving::give_blocks"],
+    "pool's lock": ["nv_alloc::inode_pool::InodePool::take", "nv_service::giving_back::Giving::put_back"],
 }
 
 
@@ -57,17 +47,6 @@ def make_edit(copy, path):
             place.write_text(text.replace(old, rest), encoding="utf-8")
 
 
-def keep_apart(copy):
-    """Has each function that runs under a lock built apart."""
-    for file, name, _ in (it for held in HELD.values() for it in held):
-        path = copy / "crates" / file
-        text = path.read_text(encoding="utf-8") if path.is_file() else ""
-        text, count = re.subn(rf"^( *)((?:pub(?:\(crate\))? )?fn {name}\b)", r"\1#[inline(never)]\n\1\2", text, flags=re.M)
-        if count != 1:
-            sys.exit(f"{file} has {count} functions {name}: HELD in tools/threaded.py names those that run under a lock")
-        path.write_text(text, encoding="utf-8")
-
-
 def make_copy(copy, edits):
     """The crates, and the caller as one of them."""
     shutil.copytree(ROOT / "crates", copy / "crates", ignore=shutil.ignore_patterns("out", "proofs"))
@@ -80,7 +59,6 @@ def make_copy(copy, edits):
     (copy / "crates.txt").write_text(f"{lines}{CRATE}: {LIBRARIES}\n", encoding="utf-8")
     for path in edits:
         make_edit(copy, path)
-    keep_apart(copy)
 
 
 def is_fresh(program, edits):
@@ -92,8 +70,8 @@ def is_fresh(program, edits):
     return newest < program.stat().st_mtime
 
 
-def built(program, edits=()):
-    """Builds the caller as this file, unless it is there and no source is newer."""
+def built(program, edits=(), checks="all"):
+    """Builds the caller as this file, unless it is there and no source is newer: with all checks of indices and sums, or with none."""
     program = pathlib.Path(program).resolve()
     if missing := [it for it in edits if not pathlib.Path(it).is_file()]:
         sys.exit(f"{missing[0]}: there is no such edit")
@@ -103,7 +81,9 @@ def built(program, edits=()):
     with tempfile.TemporaryDirectory() as folder:
         copy = pathlib.Path(folder)
         make_copy(copy, edits)
-        made = subprocess.run([ROOT / "tools/build-unproved", program, copy / "crates" / CRATE], stderr=subprocess.PIPE, text=True)
+        asked = {"APART": " ".join(path for paths in HELD.values() for path in paths), "CHECKS": checks}
+        words = [ROOT / "tools/build-unproved", program, copy / "crates" / CRATE]
+        made = subprocess.run(words, env=os.environ | asked, stderr=subprocess.PIPE, text=True)
     if made.returncode != 0:
         sys.exit(f"{made.stderr}{program} could not be built")
     return str(program)
