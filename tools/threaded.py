@@ -7,6 +7,8 @@ import subprocess
 import sys
 import tempfile
 
+from edits import make_edit
+
 ROOT = pathlib.Path(__file__).resolve().parent.parent
 TEXTS = ROOT / "tools/threaded"
 CRATE = "nv_threaded"
@@ -25,26 +27,6 @@ HELD = {
     "lists' locks": ["nv_service::asking::Asking::take_from", "nv_service::giving_back::Giving::give_blocks"],
     "pool's lock": ["nv_alloc::inode_pool::InodePool::take", "nv_service::giving_back::Giving::put_back"],
 }
-
-
-def make_edit(copy, path):
-    """Makes an edit in the copy of the crate that its folder names, or that a line `crate: ` does: pairs of an old line and a new one."""
-    crate = next((part for part in reversed(pathlib.Path(path).resolve().parts) if part.startswith("nv_")), None)
-    place = old = None
-    for line in pathlib.Path(path).read_text(encoding="utf-8").splitlines():
-        word, _, rest = line.partition(":")
-        rest = rest.removeprefix(" ")
-        if word == "crate":
-            crate = rest
-        elif word == "file":
-            place = copy / "crates" / (crate or "") / rest
-        elif word == "old":
-            old = rest
-        elif word == "new":
-            text = place.read_text(encoding="utf-8")
-            if text.count(old) != 1:
-                sys.exit(f"{path}: {old!r} stands {text.count(old)} times in {place.relative_to(copy)}")
-            place.write_text(text.replace(old, rest), encoding="utf-8")
 
 
 def make_copy(copy, edits):
