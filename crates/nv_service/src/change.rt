@@ -202,9 +202,12 @@ fn commit_ready<C: Commits, B: Blocks, L: Cells, R: Wait>(
         × (mine.new.amount ≡ mine.old.amount)) }
     ensures frame { L.frame lent.new ≡ L.frame lent.old }
 {
-    let mut book = lock_book(rt, service);
     let cpu = number % service.geometry.numbers.cpus;
-    match commit_over(&mut *book, lent, ready, number, cpu, mine) {
+    let mut book = lock_book(rt, service);
+    let end = commit_over(&mut *book, lent, ready, number, cpu, mine);
+    // What is refused or done is sorted without the lock.
+    drop(book);
+    match end {
         Ok(done) => Ok(done),
         Err((fault, ready)) => Err((fault, ready.into_hand())),
     }
