@@ -10,7 +10,7 @@ use Rattle.nv_base.specs.declared.fault.Fault.{Fault}
 use Rattle.nv_base.specs.declared.fault.Fault.TheVariants as fault
 use Rattle.nv_base.specs.declared.fault.MismatchPart.{MismatchPart}
 use Rattle.nv_base.specs.declared.geometry.GeometryNumbers.{GeometryNumbers}
-use Rattle.nv_book.specs.Book.{BookState, after_pick}
+use Rattle.nv_book.specs.Book.{BookState, after_pick, empty_book}
 use Rattle.nv_book.specs.declared.record.Record.{Record}
 use Rattle.nv_calls.specs.declared.answer.Answer.{Answer}
 use Rattle.nv_calls.specs.declared.answer.Answer.TheVariants as answers
@@ -30,7 +30,7 @@ use Rattle.nv_steps.specs.Turns.{IsMove, Made}
 use Rattle.nv_steps.specs.declared.lists.LeftInHand.TheVariants as left_in
 use Rattle.nv_steps.specs.declared.picks.Picked.{Picked}
 use Rattle.nv_steps.specs.declared.picks.Picked.TheVariants as pick
-use Rattle.nv_steps.proofs.BookTurns.{by_next, free_turn}
+use Rattle.nv_steps.proofs.BookTurns.{by_next, free_turn, pick_none}
 use Rattle.nv_steps.proofs.OneTurn.{book_there}
 use Rattle.nv_steps.proofs.States.{some_state}
 use Rattle.nv_service.specs.Cleaning.{CanRelease}
@@ -205,6 +205,22 @@ module _ (numbers : GeometryNumbers) (actor : ℕ) (h0 : HandState) (r0 : Runnin
     fits = fits_book empty_hand r w old;
     there = book_there numbers old;
     ends = is;
+  }
+
+  -- a book with nothing deferred
+  abbrev no_records : BookState
+  no_records = record (empty_book numbers 1 0) { deferred = [] }
+
+  -- a drain that finds nothing deferred ends
+  pub finds_nothing : (released left : ℕ) (r : Running) → HasCome numbers actor h0 r0 empty_hand r
+      → IsBefore (Pick (drain_of released left)) r → IsRun numbers actor h0 r0 (Ok (answers.Count released)) empty_hand
+  finds_nothing released left r w before = record {
+    turns = w.turns;
+    last = on_book r empty_hand true no_records no_records;
+    leads = w.leads;
+    fits = fits_book empty_hand r w no_records;
+    there = book_there numbers no_records;
+    ends = pick_none numbers actor r no_records no_records (drain_of released left) before empty_hand empty_hand refl refl refl;
   }
 
   lock_free : (d : Draining) (first : Record) (r : Running) (s : Shared) (owner : Option ℕ) → owner ≡ None

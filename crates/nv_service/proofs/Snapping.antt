@@ -7,6 +7,7 @@ use Rattle.nv_book.specs.Book.{BookState, BookValue, after_pin_snapshot, after_u
 use Rattle.nv_epoch.specs.Holders.{IsRising}
 use Rattle.nv_epoch.specs.SnapList.{Snapshots, after_making, after_pin, after_removal, after_unpin, ids, living_without, numbers, pins_at, pins_of, repinned}
 use Rattle.nv_epoch.specs.declared.snapshot.Snapshot.{Snapshot}
+use Rattle.nv_service.specs.Deferred.{has_some}
 use Rattle.nv_service.specs.Snapped.{AreSnapped}
 
 -- ---- one leaves
@@ -62,23 +63,24 @@ unpinned_one living epoch count snaps s before =
 
 -- ---- a locked book
 
--- its ledgers count its commits since the opening, and its makings and drops of snapshots
-abbrev pub IsCounted : ℕ → ℕ → ℕ → ℕ → ℕ → BookValue → Type 0
-IsCounted commit living epoch commits snapped book =
-    (book.state.commit ≡ commit + commits) × AreSnapped living epoch book.state.snaps snapped
+-- its ledgers count its commits since the opening, and its makings and drops of snapshots, and its flag its deferred records
+abbrev pub IsCounted : ℕ → ℕ → ℕ → ℕ → ℕ → Bool → BookValue → Type 0
+IsCounted commit living epoch commits snapped flagged book =
+    (book.state.commit ≡ commit + commits) × AreSnapped living epoch book.state.snaps snapped × (flagged ≡ has_some book.state.deferred)
 
 -- ledgers that count a book
-abbrev Counted : ℕ → ℕ → ℕ → ℕ → ℕ → BookState → Type 0
-Counted commit living epoch commits snapped book = (book.commit ≡ commit + commits) × AreSnapped living epoch book.snaps snapped
+abbrev Counted : ℕ → ℕ → ℕ → ℕ → ℕ → Bool → BookState → Type 0
+Counted commit living epoch commits snapped flagged book =
+    (book.commit ≡ commit + commits) × AreSnapped living epoch book.snaps snapped × (flagged ≡ has_some book.deferred)
 
-module _ (commit living epoch commits snapped : ℕ) (old new : BookValue) (s : ℕ) (was : IsCounted commit living epoch commits snapped old) where
+module _ (commit living epoch commits snapped : ℕ) (flagged : Bool) (old new : BookValue) (s : ℕ) (was : IsCounted commit living epoch commits snapped flagged old) where
   -- a pin, or one that was refused
   pub pinned_book : (new.state ≡ after_pin_snapshot s old.state) ⊎ (new.state ≡ old.state)
-      → IsCounted commit living epoch commits snapped new
+      → IsCounted commit living epoch commits snapped flagged new
   pinned_book (inl is) =
-      subst (Counted commit living epoch commits snapped) (sym is) (was.0, pinned_one living epoch snapped old.state.snaps s was.1)
-  pinned_book (inr is) = subst (Counted commit living epoch commits snapped) (sym is) was
+      subst (Counted commit living epoch commits snapped flagged) (sym is) (was.0, pinned_one living epoch snapped old.state.snaps s was.1, was.2)
+  pinned_book (inr is) = subst (Counted commit living epoch commits snapped flagged) (sym is) was
 
-  pub unpinned_book : new.state ≡ after_unpin_snapshot s old.state → IsCounted commit living epoch commits snapped new
+  pub unpinned_book : new.state ≡ after_unpin_snapshot s old.state → IsCounted commit living epoch commits snapped flagged new
   unpinned_book is =
-      subst (Counted commit living epoch commits snapped) (sym is) (was.0, unpinned_one living epoch snapped old.state.snaps s was.1)
+      subst (Counted commit living epoch commits snapped flagged) (sym is) (was.0, unpinned_one living epoch snapped old.state.snaps s was.1, was.2)

@@ -4,6 +4,7 @@ pub mod Changing
 pub mod Cleaning
 pub mod Closing
 pub mod Committing
+pub mod Deferred
 pub mod Draining
 pub mod Ending
 pub mod Fresh

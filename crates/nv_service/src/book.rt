@@ -22,6 +22,7 @@ ghost use Rattle.nv_steps.specs.Hands.{hand_of};
 ghost use Rattle.nv_steps.specs.OnBook.{IsBefore, IsPickTurn, IsTurnTo, answer_of_show, drain_of, on_book, once_pinned, room_behind, was_granted};
 ghost use Rattle.nv_steps.specs.Turns.{IsEnd};
 
+use crate::deferred_flag::{DeferredFlag, has_deferred};
 use crate::names::{Commits, SnapLedger};
 use nv_alloc::Hand;
 use nv_base::{CommitNo, Epoch, Fault};
@@ -35,17 +36,20 @@ use std::marker::Model;
 use std::sync::ledger;
 use std::sync::ledger::Share;
 
-/// The book, with the ledgers that count its commits, and its makings and drops of snapshots.
+/// The book, with the ledgers that count its commits, and its makings and drops of snapshots, and what the flag of deferred
+/// records says.
 #[derive(Drop)]
 pub struct LockedBook<C: Commits> {
     pub(crate) book: Book,
     pub(crate) commits: ledger::Book<C>,
     pub(crate) snap_book: ledger::Book<SnapLedger<C>>,
+    pub(crate) flagged: bool,
 }
 
 impl<C: Commits> Model for LockedBook<C> {
     ghost use Rattle.std.specs.Prelude.{◌≡◌, ◌+◌};
     ghost use Rattle.nv_book.specs.Book.{BookValue};
+    ghost use Rattle.nv_service.specs.Deferred.{has_some};
     ghost use Rattle.nv_service.specs.Snapped.{AreSnapped};
 
     ghost Value = { BookValue };
@@ -53,8 +57,10 @@ impl<C: Commits> Model for LockedBook<C> {
     ghost view = { λ b. b.book };
 
     // Its commit number is that at the opening and what the ledger of commits counts.
+    // The flag is raised exactly where a record is deferred.
     ghost invariant = { λ b. (b.book.state.commit ≡ C.commit + b.commits.total)
-        × AreSnapped C.living C.epoch b.book.state.snaps b.snap_book.total };
+        × AreSnapped C.living C.epoch b.book.state.snaps b.snap_book.total
+        × (b.flagged ≡ has_some b.book.state.deferred) };
 }
 
 impl<C: Commits> LockedBook<C> {
@@ -131,11 +137,13 @@ impl<C: Commits> LockedBook<C> {
         Ok(answer)
     }
 
-    /// Drops the snapshot `s`, as [`Book::drop_snapshot`] does, and counts it in the share.
+    /// Drops the snapshot `s`, as [`Book::drop_snapshot`] does, and counts it in the share. Raises the flag where it deferred
+    /// a record.
     pub(crate) fn drop_snapshot(
         &mut self,
         s: Epoch,
         mine: &mut Share<SnapLedger<C>>,
+        flag: &DeferredFlag,
     ) -> Result<Answer, Fault>
         requires part { 0 < mine.old.parts }
         // It is one turn of the machine, wherever the other parts are.
@@ -162,6 +170,7 @@ impl<C: Commits> LockedBook<C> {
         self.book.snaps().rises();
         let answer = nv_steps::drop_snapshot(&mut self.book, s)?;
         self.snap_book.add(mine, 1);
+        flag.set(&mut self.flagged, has_deferred(&self.book));
         Ok(answer)
     }
 
@@ -211,8 +220,9 @@ impl<C: Commits> LockedBook<C> {
         nv_steps::unpin(&mut self.book, s, shown)
     }
 
-    /// Picks the first deferred record for a drain that has released so many, as [`nv_steps::pick`] does.
-    pub(crate) fn pick(&mut self, hand: &mut Hand, released: u64) -> Picked
+    /// Picks the first deferred record for a drain that has released so many, as [`nv_steps::pick`] does. Lowers the flag where
+    /// none is left.
+    pub(crate) fn pick(&mut self, hand: &mut Hand, released: u64, flag: &DeferredFlag) -> Picked
         requires empty { hand_of hand.old ≡ empty_hand }
         // It is one turn of the machine, wherever the other parts are.
         ensures turn { (numbers : GeometryNumbers) (actor left : ℕ) (r : Running)
@@ -228,6 +238,9 @@ impl<C: Commits> LockedBook<C> {
           };
         } }
     {
-        nv_steps::pick(&mut self.book, hand, released)
+        let picked = nv_steps::pick(&mut self.book, hand, released);
+        let left = has_deferred(&self.book);
+        flag.set(&mut self.flagged, left);
+        picked
     }
 }

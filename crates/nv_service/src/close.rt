@@ -15,6 +15,7 @@ ghost use Rattle.nv_service.specs.Seats.{AreSeats};
 ghost use Rattle.nv_service.specs.Snapped.{AreSnapped};
 
 use crate::book::LockedBook;
+use crate::deferred_flag::{DeferredFlag, has_deferred};
 use crate::judge::Judge;
 use crate::names::{Blocks, Commits};
 use crate::seats::are_seats;
@@ -176,6 +177,7 @@ impl<C: Commits, B: Blocks> UnlockedParts<C, B> {
         let (geometry, cells, lists, pool, book) = parts.into_fields();
         lock_cells(cells.into_vec(), cell_rests, &mut cell_locks);
         lock_lists(lists.into_vec(), list_rests, &mut list_locks);
+        let flagged = has_deferred(&book);
         Service {
             alloc,
             geometry,
@@ -186,7 +188,9 @@ impl<C: Commits, B: Blocks> UnlockedParts<C, B> {
                 book,
                 commits,
                 snap_book,
+                flagged,
             })),
+            deferred_flag: CachePadded::new(DeferredFlag::new(flagged)),
             fresh,
             seating,
             total,

@@ -115,7 +115,8 @@ fn drain_next<C: Commits, B: Blocks, R: Wait>(
     Ok(picked)
 }
 
-/// The first deferred record, which stays in the book. Where there is none, this is the call's last step.
+/// The first deferred record, which stays in the book. Where there is none, this is the call's last step: it takes no lock where
+/// the flag says so, and then makes no room.
 fn look_first<C: Commits, B: Blocks, R: Wait>(
     rt: &R,
     service: &Service<C, B>,
@@ -129,10 +130,13 @@ fn look_first<C: Commits, B: Blocks, R: Wait>(
     ensures ends { EndsPick released result }
     ensures empty { hand_of hand.new ≡ empty_hand }
 {
+    if !service.deferred_flag.is_raised() {
+        return Picked::Ends(Ok(Answer::Count(released)));
+    }
     let mut book = service.book_lock().lock(rt);
     match first_of(book.part()) {
         Some(first) => Picked::First(first),
-        None => book.pick(hand, released),
+        None => book.pick(hand, released, &service.deferred_flag),
     }
 }
 
@@ -262,7 +266,7 @@ fn pick_first<C: Commits, B: Blocks, R: Wait>(
     if !releases(cell, first, hand, released) {
         return Err(Fault::Mismatch(MismatchPart::Records));
     }
-    Ok(Some(book.pick(hand, released)))
+    Ok(Some(book.pick(hand, released, &service.deferred_flag)))
 }
 
 /// Whether a record can be released from a cell, by a drain that has released so many.

@@ -19,6 +19,7 @@ mod cleaners;
 mod close;
 mod commit;
 mod commit_lock;
+mod deferred_flag;
 mod drain;
 mod ending;
 mod first_locks;

@@ -12,6 +12,7 @@ ghost use Rattle.nv_service.specs.Opened.{versions_in};
 ghost use Rattle.nv_service.specs.Opening.{blocks_in};
 
 use crate::book::LockedBook;
+use crate::deferred_flag::{DeferredFlag, has_deferred};
 use crate::first_locks::{LockRoom, lock_first_cells, lock_first_lists};
 use crate::judge::Judge;
 use crate::names::{Blocks, Commits, Ledgers, Opened};
@@ -142,6 +143,7 @@ impl<C: Commits, B: Blocks> Service<C, B> {
             given: 0,
             reserve: Mutex::new(reserve),
         };
+        let flagged = has_deferred(&book);
         Service {
             alloc,
             geometry,
@@ -152,7 +154,9 @@ impl<C: Commits, B: Blocks> Service<C, B> {
                 book,
                 commits,
                 snap_book,
+                flagged,
             })),
+            deferred_flag: CachePadded::new(DeferredFlag::new(flagged)),
             fresh,
             seating,
             total: counts.close(),

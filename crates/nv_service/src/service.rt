@@ -10,6 +10,7 @@ use crate::book::LockedBook;
 use crate::cell::LockedCell;
 use crate::cell_locks::CellLocks;
 use crate::close::PartRoom;
+use crate::deferred_flag::DeferredFlag;
 use crate::judge::Judge;
 use crate::list::LockedList;
 use crate::names::{Blocks, Commits};
@@ -26,7 +27,8 @@ use std::sync::Mutex;
 use std::sync::ledger::Total;
 
 /// The parts of a world behind locks: a cell for each inode slot, a free list for each CPU, the pool of inode numbers, and
-/// the book. The lists, the pool and the book have cache lines of their own. All blocks together are those of the device.
+/// the book. The lists, the pool, the book and the flag of its deferred records have cache lines of their own. All blocks
+/// together are those of the device.
 pub struct Service<C: Commits, B: Blocks> {
     pub(crate) alloc: Global,
     pub(crate) geometry: Geometry,
@@ -34,6 +36,7 @@ pub struct Service<C: Commits, B: Blocks> {
     pub(crate) lists: Vec<CachePadded<Mutex<LockedList<B>>>>,
     pub(crate) pool: CachePadded<Mutex<InodePool>>,
     pub(crate) book: CachePadded<Mutex<LockedBook<C>>>,
+    pub(crate) deferred_flag: CachePadded<DeferredFlag>,
     pub(crate) fresh: Fresh<C>,
     pub(crate) seating: Seating<C, B>,
     pub(crate) total: Total<B>,
@@ -123,6 +126,7 @@ impl<C: Commits, B: Blocks> Service<C, B> {
             lists: mut list_locks,
             pool,
             book,
+            deferred_flag: _,
             fresh,
             seating,
             total,
@@ -146,6 +150,7 @@ impl<C: Commits, B: Blocks> Service<C, B> {
             book,
             commits,
             snap_book,
+            flagged: _,
         } = book.into_inner().into_inner();
         let parts = Parts {
             geometry,
@@ -181,6 +186,7 @@ impl<C: Commits, B: Blocks> Drop for Service<C, B> {
             lists,
             pool: _,
             book: _,
+            deferred_flag: _,
             fresh: _,
             seating: _,
             total: _,

@@ -60,7 +60,11 @@ impl<C: Commits, B: Blocks> Session<C, B> {
         ensures held { IsGivenBack self.new.held }
     {
         let mine = &mut self.snapped;
-        let answer = service.book_lock().lock(rt).drop_snapshot(snapshot, mine)?;
+        let flag = &service.deferred_flag;
+        let answer = service
+            .book_lock()
+            .lock(rt)
+            .drop_snapshot(snapshot, mine, flag)?;
         Ok(Seen::Other(answer))
     }
 

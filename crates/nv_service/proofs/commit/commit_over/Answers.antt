@@ -2,6 +2,7 @@ use Rattle.std.proofs.Common.{rules, ◌≡◌, ◌+◌, subst, sym}
 use Rattle.nv_book.specs.Book.{BookState, BookValue, after_enter}
 use Rattle.nv_calls.specs.CanCommit.{CanCommit, IsClosed}
 use Rattle.nv_service.specs.Committing.{TakeNext}
+use Rattle.nv_service.specs.Deferred.{has_some}
 use Rattle.nv_service.specs.Snapped.{AreSnapped}
 use Rattle.nv_service.proofs.ReadyOver.{can, placed}
 use Rattle.nv_service.proofs.commit.commit_over.Goals as goal
@@ -23,5 +24,6 @@ pub invariant_of-book : goal.invariant_of-book
 invariant_of-book g c =
     subst
     (λ (s : BookState). (s.commit ≡ g.C.Commits.commit + c.book-2.inside.commits.total)
-    × AreSnapped g.C.Commits.living g.C.Commits.epoch s.snaps c.book-2.inside.snap_book.total) (sym c.commit_on.ensures.book)
+    × AreSnapped g.C.Commits.living g.C.Commits.epoch s.snaps c.book-2.inside.snap_book.total
+    × (c.book-2.inside.flagged ≡ has_some s.deferred)) (sym c.commit_on.ensures.book)
     c.book-2.invariant

@@ -1,4 +1,4 @@
-use Rattle.std.proofs.Common.{◌≡◌, ◌⊎◌, ap, arith, refl, subst, sym}
+use Rattle.std.proofs.Common.{◌≡◌, ◌∙◌, ◌⊎◌, ap, arith, refl, subst, sym}
 use Rattle.std.specs.Prelude.{Err, Ok, Result}
 use Rattle.nv_base.specs.declared.fault.Fault.{Fault}
 use Rattle.nv_base.specs.declared.fault.Fault.TheVariants as fault
@@ -17,7 +17,8 @@ use Rattle.nv_service.proofs.book.LockedBook.drop_snapshot.Goals as goal
 pub invariant_of-self : goal.invariant_of-self
 invariant_of-self g c =
     subst
-    (IsCounted g.C.Commits.commit g.C.Commits.living g.C.Commits.epoch c.self.inside.commits.total c.self.inside.snap_book.total)
+    (IsCounted g.C.Commits.commit g.C.Commits.living g.C.Commits.epoch c.self.inside.commits.total c.self.inside.snap_book.total
+    c.self.inside.flagged)
     (sym c.in_err-answer.ensures.same) c.self.invariant
 
 pub invariant_of-self-2 : goal.invariant_of-self-2
@@ -33,6 +34,7 @@ invariant_of-self-2 g c =
       omega (arith, c.self.invariant.0, ap (λ (b : BookValue). b.state.commit) is),
       subst (λ (b : BookValue). AreSnapped living epoch b.state.snaps c.add.new.self.total) (sym is)
           (subst (AreSnapped living epoch (after_removal snaps c.args.s)) (sym c.add.ensures.total) counted),
+      c.set.ensures ∙ c.has_deferred.ensures,
     )
 
 pub returns-in_err-answer-clause-err : goal.returns-in_err-answer-clause-err

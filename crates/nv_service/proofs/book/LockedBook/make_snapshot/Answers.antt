@@ -6,6 +6,7 @@ use Rattle.nv_book.specs.Book.{BookValue}
 use Rattle.nv_calls.specs.declared.answer.Answer.{Answer}
 use Rattle.nv_epoch.specs.SnapList.{IsSound, after_making}
 use Rattle.nv_machine.specs.World.{empty_hand}
+use Rattle.nv_service.specs.Deferred.{has_some}
 use Rattle.nv_service.specs.Snapped.{AreSnapped}
 use Rattle.nv_steps.specs.OnBook.{on_book}
 use Rattle.nv_steps.specs.Turns.{IsEnd}
@@ -16,7 +17,8 @@ use Rattle.nv_service.proofs.book.LockedBook.make_snapshot.Goals as goal
 pub invariant_of-self : goal.invariant_of-self
 invariant_of-self g c =
     subst
-    (IsCounted g.C.Commits.commit g.C.Commits.living g.C.Commits.epoch c.self.inside.commits.total c.self.inside.snap_book.total)
+    (IsCounted g.C.Commits.commit g.C.Commits.living g.C.Commits.epoch c.self.inside.commits.total c.self.inside.snap_book.total
+    c.self.inside.flagged)
     (sym c.in_err-answer.ensures.same) c.self.invariant
 
 pub invariant_of-self-2 : goal.invariant_of-self-2
@@ -29,6 +31,7 @@ invariant_of-self-2 g c =
       omega (arith, c.self.invariant.0, ap (λ (b : BookValue). b.state.commit) is),
       subst (λ (b : BookValue). AreSnapped living epoch b.state.snaps c.add.new.self.total) (sym is)
           (subst (AreSnapped living epoch (after_making snaps)) (sym c.add.ensures.total) counted),
+      subst (λ (b : BookValue). c.self.inside.flagged ≡ has_some b.state.deferred) (sym is) c.self.invariant.2,
     )
 
 pub returns-in_err-answer-clause-err : goal.returns-in_err-answer-clause-err
