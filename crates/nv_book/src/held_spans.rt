@@ -1,6 +1,6 @@
 //! How many blocks the living snapshots hold, told for all of them by one pass over the records.
 
-ghost use Rattle.std.specs.Prelude.{◌≡◌, ℕ, ◌+◌, ◌<◌, ◌≤◌, ◌^◌, if◌then◌else◌, length, map, nat_lt, replicate, slice_index, take, IfErr, IfOk};
+ghost use Rattle.std.specs.Prelude.{◌≡◌, ℕ, ◌+◌, ◌<◌, ◌≤◌, ◌^◌, if◌then◌else◌, length, map, nat_lt, replicate, slice_index, take, true, false, IfErr, IfOk};
 ghost use Rattle.std.specs.List.{sum};
 ghost use Rattle.nv_base.specs.Memory.{out_of_memory};
 ghost use Rattle.nv_base.specs.Refusals.{FailsOnly};
@@ -23,14 +23,29 @@ pub struct HeldSpans {
     over: Vec<u64>,
 }
 
-/// How many of the manifests are of snapshots below the bound.
-fn count_below(manifests: &[Manifest], bound: Epoch) -> usize
+/// Whether there is a manifest at the place, and it is of a snapshot below the bound.
+fn is_below(manifests: &[Manifest], place: usize, bound: Epoch) -> bool
+    requires { IsRising (snapshots manifests.now) }
+    ensures below { result ≡ true → (k : ℕ) → k ≤ place → k < length manifests.now
+        → slice_index (snapshots manifests.now) k < bound }
+    ensures others { result ≡ false → (k : ℕ) → place ≤ k → k < length manifests.now
+        → bound ≤ slice_index (snapshots manifests.now) k }
+{
+    place < manifests.len() && manifests[place].snapshot < bound
+}
+
+/// How many of the manifests are of snapshots below the bound: as many as guessed, or else found by halving.
+fn count_below(manifests: &[Manifest], guess: usize, bound: Epoch) -> usize
     requires { IsRising (snapshots manifests.now) }
     ensures below { (k : ℕ) → k < result → k < length manifests.now
         → slice_index (snapshots manifests.now) k < bound }
     ensures others { (k : ℕ) → result ≤ k → k < length manifests.now
         → bound ≤ slice_index (snapshots manifests.now) k }
 {
+    let begins = guess == 0 || is_below(manifests, guess - 1, bound);
+    if begins && !is_below(manifests, guess, bound) {
+        return guess;
+    }
     manifests.partition_point(|m| m.snapshot < bound)
 }
 
@@ -62,8 +77,9 @@ impl HeldSpans {
         })
     }
 
-    /// Adds a run. It costs two look-ups among the manifests.
-    pub fn add(&mut self, manifests: &[Manifest], run: &RecordRun)
+    /// Adds a run of the manifest at a place. Where that is of its youngest holder, as in a book, the run is held up to
+    /// there, and only a run with blocks that an older snapshot holds too is looked up among the manifests.
+    pub fn add(&mut self, manifests: &[Manifest], place: usize, run: &RecordRun)
         requires rising { IsRising (snapshots manifests.now) }
         requires room { HasRoom self.old (length manifests.now) (pages_of run.now) }
         ensures room { (more : ℕ) →
@@ -72,10 +88,13 @@ impl HeldSpans {
         ensures held { AddsSpan (snapshots manifests.now)
             (λ s. if is_held_by s run.now.first then pages_of run.now else 0) self.old self.new }
     {
-        let first = count_below(manifests, run.first.birth);
-        let end = count_below(manifests, run.first.death);
+        let blocks = run.pages();
+        if blocks == 0 {
+            return;
+        }
+        let first = count_below(manifests, place, run.first.birth);
+        let end = count_below(manifests, place.saturating_add(1), run.first.death);
         if first < end {
-            let blocks = run.pages();
             add_at(&mut self.begun, first, blocks);
             add_at(&mut self.over, end, blocks);
         }

@@ -226,7 +226,7 @@ impl RecordStore {
     }
 
     /// How many blocks of recorded parts each snapshot holds, oldest first. It takes time by the runs of the manifests,
-    /// with two look-ups among the manifests for each.
+    /// with a look-up among these for each run of blocks that two snapshots hold.
     ///
     /// The only error is `OutOfMemory`.
     pub fn held_by_each(&self, alloc: Global) -> Result<Vec<u64>, Fault>
@@ -237,8 +237,8 @@ impl RecordStore {
     {
         let manifests = self.manifests.as_slice();
         let mut spans = HeldSpans::new(alloc, manifests.len())?;
-        for m in manifests {
-            m.records.span(manifests, &mut spans);
+        for place in 0..manifests.len() {
+            manifests[place].records.span(manifests, place, &mut spans);
         }
         spans.held(alloc, manifests)
     }

@@ -104,9 +104,9 @@ impl Records {
         runs::held(&self.runs, s)
     }
 
-    /// Adds the records to the spans over the manifests. It takes time by the runs, with two look-ups among the manifests
-    /// for each.
-    pub(crate) fn span(&self, manifests: &[Manifest], spans: &mut HeldSpans)
+    /// Adds the records of the manifest at a place to the spans over all. It takes time by the runs, with a look-up among
+    /// the manifests for each that [`HeldSpans::add`] looks up.
+    pub(crate) fn span(&self, manifests: &[Manifest], place: usize, spans: &mut HeldSpans)
         requires rising { IsRising (snapshots manifests.now) }
         requires room { HasRoom spans.old (length manifests.now) (length self.now) }
         ensures room { (more : ℕ) → HasRoom spans.old (length manifests.now) (length self.now + more)
@@ -114,7 +114,7 @@ impl Records {
         ensures held { AddsSpan (snapshots manifests.now)
             (λ s. block_count (filter (is_held_by s) self.now)) spans.old spans.new }
     {
-        runs::span(&self.runs, manifests, spans);
+        runs::span(&self.runs, manifests, place, spans);
     }
 
     /// How many blocks of the records were not born by the snapshot `older`. It takes time by the runs.

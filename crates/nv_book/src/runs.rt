@@ -175,8 +175,13 @@ pub fn held(list: &LinkedList<RecordRun>, s: Epoch) -> u64
     held.map(|run| run.pages()).sum()
 }
 
-/// Adds the runs to the spans over the manifests.
-pub fn span(list: &LinkedList<RecordRun>, manifests: &[Manifest], spans: &mut HeldSpans)
+/// Adds the runs of the manifest at a place to the spans over all.
+pub fn span(
+    list: &LinkedList<RecordRun>,
+    manifests: &[Manifest],
+    place: usize,
+    spans: &mut HeldSpans,
+)
     requires rising { IsRising (snapshots manifests.now) }
     requires room { HasRoom spans.old (length manifests.now) (sum_by pages_of list.now) }
     ensures room { (more : ℕ) →
@@ -186,7 +191,7 @@ pub fn span(list: &LinkedList<RecordRun>, manifests: &[Manifest], spans: &mut He
         spans.old spans.new }
 {
     for run in list.iter() {
-        spans.add(manifests, run);
+        spans.add(manifests, place, run);
     }
 }
 
