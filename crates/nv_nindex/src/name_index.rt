@@ -168,7 +168,7 @@ impl NameIndex {
     }
 
     /// Binds a name that is reserved or bound, and takes no memory. The reserved name, once it is bound, is
-    /// no longer reserved; another stays. Costs two look-ups.
+    /// no longer reserved; another stays. Costs one look-up.
     pub fn bind(&mut self, name: &[u8], to: Binding)
         // Callers bind only a name that is bound or reserved.
         requires { IsSome (binding_of name.now self.old.names)
@@ -181,12 +181,16 @@ impl NameIndex {
             → self.new.reserved ≡ self.old.reserved }
         ensures taken { self.old.reserved ≡ Some name.now → self.new.reserved ≡ None }
     {
-        if let Some(binding) = self.bindings.get_mut(name) {
-            *binding = to;
+        // A reserved name is not bound: it is told by one comparison, and then it is not looked for.
+        if self.is_reserved(name) {
+            let key = self.reserved.take().unwrap();
+            let _none = self.bindings.insert(key, to).unwrap();
             return;
         }
-        let key = self.reserved.take().unwrap();
-        let _none = self.bindings.insert(key, to).unwrap();
+        let Some(binding) = self.bindings.get_mut(name) else {
+            unreachable!()
+        };
+        *binding = to;
     }
 
     /// Takes a name out. An absent name changes nothing, and the reserved name stays. Costs two look-ups: the
