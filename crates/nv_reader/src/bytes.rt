@@ -39,7 +39,9 @@ pub(crate) fn file_bytes<B: PartBlocks>(
     let count = size.div_ceil(block);
     // No page of a file is present from the greatest file's end on.
     let writers = page_writers(alloc, block, log, count.min(u64::from(FILE_PAGES)) as usize)?;
-    let mut text = Vec::new(alloc);
+    // Room for all pages at once: a list that grows page by page is copied each time that it doubles.
+    let bytes = count.saturating_mul(block);
+    let mut text = Vec::with_capacity(alloc, bytes as usize)?;
     for page in 0..count {
         push_page(&mut text, block, page_in(&writers, page, blocks))?;
     }
