@@ -8,7 +8,7 @@ use crate::PageRun;
 use crate::empty_places::{behind_empty, empty_in, squeeze_full, squeeze_sparse, vacate};
 use crate::run_rows::RunRows;
 use crate::runs::keep_below;
-use crate::search::{ended_by, ended_from};
+use crate::search::{ended_at, ended_from};
 
 /// Puts a run at a place: in the place of the first of the runs from there on and before `to`, if there are any. Returns
 /// where the others of those end then.
@@ -192,9 +192,10 @@ fn put_at(runs: &mut RunRows, empty: &mut usize, at: usize, run: PageRun)
     }
 }
 
-/// Puts a run in place of what the runs have of its pages. So many of their places are empty. Those of runs that went
-/// stay, empty, until they are more than half of all or the room is needed.
-pub fn put(runs: &mut RunRows, empty: &mut usize, run: PageRun)
+/// Puts a run in place of what the runs have of its pages, of which the first is looked for at `place` first. So many of
+/// their places are empty. Those of runs that went stay, empty, until they are more than half of all or the room is
+/// needed.
+pub fn put(runs: &mut RunRows, empty: &mut usize, run: PageRun, place: usize)
     requires places { ArePlaces runs.old.items }
     requires empty { IsEmptyCount empty.old runs.old.items }
     requires run { IsRun run }
@@ -206,7 +207,7 @@ pub fn put(runs: &mut RunRows, empty: &mut usize, run: PageRun)
     ensures capacity { runs.new.capacity ≡ runs.old.capacity }
 {
     squeeze_full(runs, empty);
-    let at = ended_by(runs, run.first);
+    let at = ended_at(runs, place, run.first);
     if is_just(runs, at, &run) {
         runs.replace(at, run);
         return;

@@ -100,7 +100,8 @@ pub fn ended_by(runs: &RunRows, page: u32) -> usize
     ended_in(runs, low, high, page)
 }
 
-/// How many of the places end at or before a page, where that number may be known. A right guess spares the search.
+/// How many of the places end at or before a page, where that number may be known. A right guess spares the search. One
+/// that is too low costs the logarithm of how far off it is, as where empty places lie behind it.
 pub fn ended_at(runs: &RunRows, guess: usize, page: u32) -> usize
     requires { ArePlaces runs.now.items }
     ensures within { result ≤ length runs.now.items }
@@ -110,7 +111,10 @@ pub fn ended_at(runs: &RunRows, guess: usize, page: u32) -> usize
     if is_border(runs, guess, page) {
         return guess;
     }
-    ended_by(runs, page)
+    if guess == 0 || page < runs.at(guess - 1).end {
+        return ended_by(runs, page);
+    }
+    ended_from(runs, guess, page)
 }
 
 /// How many of the places end at or before a page, where all before `from` do. Costs the logarithm of how many more
