@@ -91,8 +91,8 @@ impl FileIndex {
 
     /// All of the run that has a page, or else the first run behind the page, which is looked for at a place among
     /// the runs first. A right place spares the look-up. It becomes the place behind the run, so that a walk over
-    /// pages that goes on from each run's end costs one look-up, and one more behind each run with an empty place
-    /// behind it.
+    /// pages that goes on from each run's end costs one look-up, and the logarithm of how many empty places lie behind
+    /// each run.
     #[tactic(auto, using(crate::proofs::Refs::refs_within))]
     pub fn run_near(&self, page: u32, place: &mut usize) -> Option<PageRun>
         ensures run { IsRunFrom page (ref_at self.now.pages) result }
