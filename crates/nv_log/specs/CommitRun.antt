@@ -8,7 +8,7 @@ use Rattle.nv_log.specs.declared.commit_run.CommitRun.{CommitRun}
 abbrev pub id_in : CommitRun → ℕ → EntryId
 id_in run n = record { commit = run.first + (n - run.from); place = 0 }
 
--- from the run on, each entry is the first of its commit, and the commits follow one another
+-- the run lies among the entries, and each of it is the first of its commit, where the commits follow one another
 abbrev pub IsCommitRun : List Entry → CommitRun → Type 0
-IsCommitRun entries run = (n : ℕ) (none : Entry) → run.from ≤ n → n < length entries
-    → (slice_index_or entries n none).id ≡ id_in run n
+IsCommitRun entries run = (run.to ≤ length entries)
+    × ((n : ℕ) (none : Entry) → run.from ≤ n → n < run.to → (slice_index_or entries n none).id ≡ id_in run n)

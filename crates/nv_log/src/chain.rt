@@ -79,7 +79,7 @@ impl Chain {
             ends: Vec::new(alloc),
             entries: Vec::new(alloc),
             tail: 0,
-            run: CommitRun::behind(0),
+            run: CommitRun::empty(),
             reserved: 0,
             reads: ReadCount::new(),
         }

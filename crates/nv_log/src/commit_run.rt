@@ -1,6 +1,6 @@
-//! The last entries of a log whose commits follow one another.
+//! Entries of a log whose commits follow one another.
 
-ghost use Rattle.std.specs.Prelude.{◌≡◌, ◌<◌, ◌≤◌, ◌++◌, ◌∷◌, List, [], IfSome, Some, length};
+ghost use Rattle.std.specs.Prelude.{◌≡◌, ◌<◌, ◌++◌, ◌∷◌, List, [], IfSome, Some, length};
 ghost use Rattle.nv_entry.specs.Log.{IsLog};
 ghost use Rattle.nv_entry.specs.declared.item.Entry.{Entry};
 ghost use Rattle.nv_log.specs.Chain.{place_of_id};
@@ -9,43 +9,55 @@ ghost use Rattle.nv_log.specs.CommitRun.{IsCommitRun};
 use nv_base::EntryId;
 use nv_entry::Entry;
 
-/// Where the last entries of a log begin that are each the first of its commit, and whose commits follow one another
-/// without a gap: the place of such an entry follows from its id, and none is looked at. Of a file that is written
-/// alone, all entries but the first are such.
+/// Entries of a log that are each the first of its commit, and whose commits follow one another without a gap: the place
+/// of such an entry follows from its id, and none is looked at. Of a file that is written alone, all entries but the first
+/// are such.
 #[derive(Clone, Copy, Debug, PartialEq, Eq)]
 pub struct CommitRun {
     /// The place of the first of these entries.
     pub from: usize,
-    /// Its commit.
+    /// The place behind the last of them.
+    pub to: usize,
+    /// The commit of the first of them.
     pub first: u64,
 }
 
 impl CommitRun {
-    /// The run behind so many entries: it has none.
-    pub fn behind(len: usize) -> CommitRun
-        ensures { (entries : List Entry) → length entries ≤ len → IsCommitRun entries result }
+    /// No entries.
+    pub fn empty() -> CommitRun
+        ensures { (entries : List Entry) → IsCommitRun entries result }
     {
         CommitRun {
-            from: len,
+            from: 0,
+            to: 0,
             first: 0,
         }
     }
 
-    /// The run of the entries with one more, which has this id.
+    /// The run of the entries with one more, which has this id. A run that has ended stays until as many entries stand
+    /// behind it as it has: a commit of many entries, or one of another file, does not take a long run away.
     pub fn with(self, entries: &[Entry], id: EntryId) -> CommitRun
         requires { IsCommitRun entries.now self }
         ensures { (e : Entry) → e.id ≡ id → IsCommitRun (entries.now ++ e ∷ []) result }
     {
         let len = entries.len();
-        if id.place != 0 {
-            return CommitRun::behind(len + 1);
-        }
         let commit = id.commit.number();
-        if self.from < len && commit.saturating_sub(self.first) == (len - self.from) as u64 {
+        let (many, behind) = (self.to.saturating_sub(self.from), len - self.to);
+        let follows = id.place == 0
+            && behind == 0
+            && commit.saturating_sub(self.first) == many as u64;
+        if follows && many > 0 {
+            return CommitRun {
+                to: len + 1,
+                ..self
+            };
+        }
+        if id.place != 0 || behind < many {
             return self;
         }
         CommitRun {
             from: len,
+            to: len + 1,
             first: commit,
         }
     }
@@ -62,6 +74,6 @@ impl CommitRun {
             return None;
         }
         let place = self.from.saturating_add((commit - self.first) as usize);
-        (place < entries.len()).then_some(place)
+        (place < self.to).then_some(place)
     }
 }

@@ -65,7 +65,7 @@ impl Chain {
         ensures was { IsChain self.old.state }
     {
         self.tail = removal::take_pages(&mut self.entries, &mut self.ends, self.tail, first, stays);
-        self.run = CommitRun::behind(self.entries.len());
+        self.run = CommitRun::empty();
     }
 
     /// How many entries stay where the log keeps those that are flagged as staying, a flag for each. The time
@@ -98,7 +98,7 @@ impl Chain {
         self.tail = removal::staying(&self.entries[..self.tail], stays);
         removal::take_entries(&mut self.entries, stays);
         pages::pack(&mut self.ends, self.page, self.entries.len());
-        self.run = CommitRun::behind(self.entries.len());
+        self.run = CommitRun::empty();
         self.reserved = pages.len();
         mem::replace(&mut self.blocks, pages)
     }

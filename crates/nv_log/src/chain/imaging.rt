@@ -51,7 +51,7 @@ impl Chain {
             };
             return Err((fault, same));
         }
-        let run = CommitRun::behind(entries.len());
+        let run = CommitRun::empty();
         Ok(Chain {
             page,
             blocks: pages,
@@ -118,7 +118,7 @@ impl Chain {
         pages::cut(&mut self.ends, tail);
         removal::hand_out_past(&mut self.blocks, self.ends.len(), free);
         self.tail = tail;
-        self.run = CommitRun::behind(tail);
+        self.run = CommitRun::empty();
     }
 }
 

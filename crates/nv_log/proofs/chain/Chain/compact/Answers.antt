@@ -54,7 +54,7 @@ invariant_of-self c =
     mul-le-mul_right c.self.inside.page few in
     record {
       chain = subst IsChain (sym (whole c)) (IsChain-compacted stays c.args.pages.items chain c.self.invariant.chain count);
-      run = c.behind-self-inside.ensures c.take_entries.new.entries.items (omega (arith, c.len-2.ensures, c.take_entries.new.entries.ok));
+      run = c.empty-self-inside.ensures c.take_entries.new.entries.items;
       there = rw (c.replace.ensures.after, c.len-self-inside.ensures) (omega arith);
       blocks_room = rw (c.replace.ensures.after, c.len-self-inside.ensures) (omega (arith, c.args.pages.ok));
       ends_room = rw (c.pack.ensures.capacity, c.len-self-inside.ensures) (omega (arith, few, c.self.invariant.ends_room));

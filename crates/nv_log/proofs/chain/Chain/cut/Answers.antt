@@ -49,8 +49,7 @@ invariant_of-self c =
     let within = rw (← c.self.view_is) at c.requires.within in
     record {
       chain = subst IsChain (sym (whole c)) (IsChain-cut c.args.tail (state_in c.self.inside) c.self.invariant.chain within);
-      run = c.behind-self-inside.ensures c.truncate.new.self.items
-          (omega (arith, ap length c.truncate.ensures.items, length-take c.args.tail c.self.inside.entries.items));
+      run = c.empty-self-inside.ensures c.truncate.new.self.items;
       there = omega (
         arith,
         c.self.invariant.there,

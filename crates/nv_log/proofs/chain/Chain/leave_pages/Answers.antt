@@ -1,4 +1,3 @@
-use Rattle.std.proofs.Common.{arith}
 use Rattle.nv_log.specs.Fields.{state_in}
 use Rattle.nv_log.specs.Chain.{flags_from}
 use Rattle.nv_log.proofs.Chains.{IsChain-with_entries_left}
@@ -10,8 +9,7 @@ invariant_of-self c =
     let told = c.take_pages-self-inside.ensures in
     record {
       chain = rw (told.entries, told.ends, told.tail) (IsChain-with_entries_left stays (state_in c.self.inside) c.self.invariant.chain);
-      run = c.behind-self-inside.ensures c.take_pages-self-inside.new.entries.items
-          (omega (arith, c.len.ensures, c.take_pages-self-inside.new.entries.ok));
+      run = c.empty-self-inside.ensures c.take_pages-self-inside.new.entries.items;
       there = c.self.invariant.there;
       blocks_room = c.self.invariant.blocks_room;
       ends_room = rw told.ends_capacity c.self.invariant.ends_room;

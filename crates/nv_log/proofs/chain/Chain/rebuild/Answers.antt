@@ -12,7 +12,7 @@ invariant_of-result c =
     let is = rw (← c.image.view_is) at whole in
     record {
       chain = rw (c.make_room.ensures.entries, c.make_room.ensures.ends) is;
-      run = c.behind-run.ensures c.make_room.new.entries.items (omega (arith, c.len.ensures, c.make_room.new.entries.ok));
+      run = c.empty-run.ensures c.make_room.new.entries.items;
       there = omega (arith, c.len-reserved.ensures);
       blocks_room = omega (arith, c.len-reserved.ensures, c.image.inside.pages.ok);
       ends_room = c.in_default.ensures.ends_room;
