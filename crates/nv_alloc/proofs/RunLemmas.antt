@@ -1,12 +1,12 @@
 -- Runs of consecutive numbers.
-use Rattle.std.proofs.Common.{◌≡◌, ◌≢◌, ℕ, zero, suc, ◌+◌, ◌-◌, ◌<◌, ◌≤◌, ◌==◌, Bool, true, false, List, [], ◌∷◌, Option, Some, None, length, drop, get_or, arith, refl, ap, sym, ◌∙◌, subst, ◌^◌, length-drop, add-zero}
+use Rattle.std.proofs.Common.{◌≡◌, ◌≢◌, ℕ, zero, suc, ◌+◌, ◌-◌, ◌<◌, ◌≤◌, ◌==◌, Bool, true, false, List, [], ◌∷◌, Option, Some, None, length, map, drop, get_or, arith, refl, ap, sym, ◌∙◌, subst, ◌^◌, length-drop, add-zero}
 use Rattle.std.proofs.lemmas.Bool.{eqb-true, eqb-false, eq-eqb}
-use Rattle.std.proofs.lemmas.List.{get_or-drop}
+use Rattle.std.proofs.lemmas.List.{drop-drop, drop-map, get_or-drop, length-map}
 use Rattle.std.specs.List.{AllByRecursion, range_with_len}
 use Rattle.std.specs.Option.{is_some}
 use Rattle.nv_alloc.specs.declared.runs.FreeRun.{FreeRun}
 use Rattle.nv_alloc.specs.Block.{BlockValue, numbers_of}
-use Rattle.nv_alloc.specs.FreeList.{ArePlaced}
+use Rattle.nv_alloc.specs.FreeList.{AreFlagsFrom, ArePlaced}
 use Rattle.nv_alloc.specs.Numbers.{IsRising}
 use Rattle.nv_alloc.specs.Places.{present}
 use Rattle.nv_alloc.specs.Runs.{join, free_runs_of, numbers_in, HaveGaps, IsCutInto}
@@ -47,6 +47,29 @@ ArePlaced-drop (suc k) s (None ∷ slots) p = let e : s + 1 + k ≡ s + suc k = 
     subst (λ n. ArePlaced n (drop k slots)) e (ArePlaced-drop k (s + 1) slots p)
 ArePlaced-drop (suc k) s (Some b ∷ slots) p = let e : s + 1 + k ≡ s + suc k = omega arith in
     subst (λ n. ArePlaced n (drop k slots)) e (ArePlaced-drop k (s + 1) slots p.1)
+
+-- ---- the flags of the slots that are left
+
+by_place : (slots : List (Option BlockValue)) (k : ℕ) → is_some (get_or slots k None) ≡ get_or (map is_some slots) k false
+by_place [] k = refl
+by_place (slot ∷ slots) zero = refl
+by_place (slot ∷ slots) (suc k) = by_place slots k
+
+pub flag_left : (at k : ℕ) (flags : List Bool) (slots : List (Option BlockValue)) → AreFlagsFrom at flags slots
+    → is_some (get_or slots k None) ≡ get_or flags (at + k) false
+flag_left at k flags slots left =
+    by_place slots k ∙ ap (λ (l : List Bool). get_or l k false) (sym left.1) ∙ get_or-drop at flags k false
+
+pub slots_left : (at : ℕ) (flags : List Bool) (slots : List (Option BlockValue)) → AreFlagsFrom at flags slots
+    → at + length slots ≡ length flags
+slots_left at flags slots left = omega (arith, left.0, ap length left.1, length-drop at flags, length-map slots is_some)
+
+pub flags_behind : (at n : ℕ) (flags : List Bool) (slots rest : List (Option BlockValue)) → rest ≡ drop n slots → n ≤ length slots
+    → AreFlagsFrom at flags slots → AreFlagsFrom (at + n) flags rest
+flags_behind at n flags slots rest e within left = (
+  omega (arith, within, slots_left at flags slots left),
+  sym (drop-drop n at flags) ∙ ap (drop n) left.1 ∙ drop-map is_some n slots ∙ ap (map is_some) (sym e),
+)
 
 -- slots without a block at the front add nothing
 pub skip_gap : (gap : ℕ) (slots : List (Option BlockValue)) → ((k : ℕ) → k < gap → is_some (get_or slots k None) ≡ false)

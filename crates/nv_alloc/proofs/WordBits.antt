@@ -1,12 +1,12 @@
 -- Bits in words, and the marks over them.
-use Rattle.std.proofs.Common.{◌≡◌, ◌≢◌, ℕ, ◌+◌, ◌-◌, ◌*◌, ◌/◌, ◌%◌, ◌^◌, ◌<◌, ◌==◌, inl, inr, true, false, min, List, Some, None, length, set, get_or, replicate, bit_and, bit_or, w64, arith, ap, subst, sym, ◌∙◌, length-set, get_or-set_same, get_or-set_other}
+use Rattle.std.proofs.Common.{◌≡◌, ◌≢◌, ℕ, zero, suc, ◌+◌, ◌-◌, ◌*◌, ◌/◌, ◌%◌, ◌^◌, ◌<◌, ◌≤◌, ◌==◌, inl, inr, refl, Bool, true, false, min, List, Some, None, length, set, get_or, replicate, bit_and, bit_or, w64, arith, ap, subst, sym, ◌∙◌, length-set, get_or-set_same, get_or-set_other}
 use Rattle.std.specs.Int.{bit_at, bit_not, trailing_zeros}
 use Rattle.std.proofs.lemmas.Bool.{cases_eq, cases_lt, eq-eqb}
 use Rattle.std.proofs.lemmas.List.{ext_get_or, get_or_past, get_or-replicate, length-replicate}
 use Rattle.std.proofs.lemmas.List.FromFn.{length-map-range_with_len, get_or-map-range_with_len}
-use Rattle.std.proofs.lemmas.Nat.{and_le_l}
-use Rattle.std.proofs.lemmas.Nat.Bits.{bit_at-zero, bit_at-trailing_zeros, bit_at_ones, bit_at_ones_above, ones_shr, bit_at_set_same, bit_at_set_other, bit_at_clear_same, bit_at_clear_other}
-use Rattle.nv_alloc.specs.Places.{bit_of, flags_of, word_count, AreFirst, AreMarks, AreMarksElsewhere, IsLowest, IsPlaceSet, ShrinksWord, WritesBit}
+use Rattle.std.proofs.lemmas.Nat.{and_le_l, shr_le, shr-shr}
+use Rattle.std.proofs.lemmas.Nat.Bits.{bit_at-lt, bit_at-zero, bit_at-trailing_zeros, bit_at_above, bit_at_ones, bit_at_ones_above, ones_shr, bit_at_set_same, bit_at_set_other, bit_at_clear_same, bit_at_clear_other}
+use Rattle.nv_alloc.specs.Places.{bit, bit_of, flags_of, word_count, AreFirst, AreMarks, AreMarksElsewhere, IsLowest, IsPlaceSet, ShrinksWord, WritesBit}
 
 -- a word of 0 has no bit
 no_bit : (words : List ℕ) (k : ℕ) → get_or words (k / 64) 0 ≡ 0 → bit_of words k ≡ 0
@@ -114,6 +114,25 @@ length-flags_of len bits = length-map-range_with_len (λ (j : ℕ). bit_of bits 
 pub flag_is : (len : ℕ) (bits : List ℕ) (k n : ℕ) → k < len → n ≡ bit_of bits k → (n == 1) ≡ get_or (flags_of len bits) k false
 flag_is len bits k n h e = ap (λ (m : ℕ). m == 1) e ∙ sym (get_or-flags_of len bits k h)
 
+bit_flag : (flag : Bool) → (bit flag == 1) ≡ flag
+bit_flag true = refl
+bit_flag false = refl
+
+-- a number that is a bit is that of its flag
+bit_is : (n : ℕ) (flag : Bool) → n < 2 → (n == 1) ≡ flag → n ≡ bit flag
+bit_is zero flag less e = ap bit e
+bit_is (suc zero) flag less e = ap bit e
+bit_is (suc (suc n)) flag less e = absurd (omega (arith, less))
+
+pub flag_like : (len : ℕ) (bits : List ℕ) (k : ℕ) (flag : Bool) → k < len → bit_of bits k ≡ bit flag
+    → get_or (flags_of len bits) k false ≡ flag
+flag_like len bits k flag within like = sym (flag_is len bits k (bit flag) within (sym like)) ∙ bit_flag flag
+
+pub flag_unlike : (len : ℕ) (bits : List ℕ) (k : ℕ) (flag : Bool) → k < len → bit_of bits k ≢ bit flag
+    → get_or (flags_of len bits) k false ≢ flag
+flag_unlike len bits k flag within unlike same =
+    unlike (bit_is (bit_of bits k) flag (bit_at-lt (get_or bits (k / 64) 0) (k % 64)) (flag_is len bits k (bit_of bits k) within refl ∙ same))
+
 -- a bit that is written is a flag that is written
 pub flags_of-written : (len : ℕ) (bits new : List ℕ) (place b : ℕ) → place < len → WritesBit bits place b new
     → flags_of len new ≡ set (flags_of len bits) place (b == 1)
@@ -187,6 +206,28 @@ lowest_bit words at some fits = go (trailing_zeros w64 (get_or words at 0)) (bit
       let word : (at * 64 + t) / 64 ≡ at = omega (arith, low) in
       let bit : (at * 64 + t) % 64 ≡ t = omega (arith, low) in
       (word, (rw (word, bit) is.1, λ k same less. rw same (is.2 (k % 64) (omega (arith, same, less)))))
+
+-- the bits of a word that is moved down
+shifted : (n k i : ℕ) → bit_at (n / 2 ^ k) i ≡ bit_at n (k + i)
+shifted n k i = ap (λ (m : ℕ). m % 2) (shr-shr n k i)
+
+shifted_from : (n k i : ℕ) → k ≤ i → bit_at (n / 2 ^ k) (i - k) ≡ bit_at n i
+shifted_from n k i from = let e : k + (i - k) ≡ i = omega (arith, from) in shifted n k (i - k) ∙ ap (bit_at n) e
+
+pub none_from : (n k : ℕ) → n / 2 ^ k ≡ 0 → (i : ℕ) → k ≤ i → bit_at n i ≡ 0
+none_from n k none i from = sym (shifted_from n k i from) ∙ ap (λ (m : ℕ). bit_at m (i - k)) none ∙ bit_at-zero (i - k)
+
+pub lowest_from : (n k : ℕ) → n < 2 ^ 64 → 0 < n / 2 ^ k → let at = k + trailing_zeros w64 (n / 2 ^ k) in
+    (at < 64) × (bit_at n at ≡ 1) × ((i : ℕ) → k ≤ i → i < at → bit_at n i ≡ 0)
+lowest_from n k fits some = go (trailing_zeros w64 (n / 2 ^ k)) (bit_at-trailing_zeros w64 (n / 2 ^ k) some (omega (arith, fits, shr_le n k))) where
+  go : (t : ℕ) → (t < 64) × (bit_at (n / 2 ^ k) t ≡ 1) × ((i : ℕ) → i < t → bit_at (n / 2 ^ k) i ≡ 0)
+      → (k + t < 64) × (bit_at n (k + t) ≡ 1) × ((i : ℕ) → k ≤ i → i < k + t → bit_at n i ≡ 0)
+  go t is =
+      let there : bit_at n (k + t) ≡ 1 = sym (shifted n k t) ∙ is.1 in (
+        elim (cases_lt (k + t) 64) [ inl less ↦ less | inr past ↦ absurd (omega (arith, there, bit_at_above n 64 (k + t) fits past)) ],
+        there,
+        λ i from less. sym (shifted_from n k i from) ∙ is.2 (i - k) (omega (arith, from, less)),
+      )
 
 -- the first bit of the first word that has one
 pub found_first : (words here : List ℕ) (word at : ℕ) → here ≡ words → at / 64 ≡ word → bit_of here at ≡ 1

@@ -1,5 +1,5 @@
 -- Free lists.
-use Rattle.std.specs.Prelude.{◌≡◌, ℕ, ◌+◌, ◌<◌, ◌≤◌, ◌^◌, ◌&&◌, if◌then◌else◌, Bool, is_some, nat_lt, nat_le, List, [], ◌∷◌, Option, Some, None, length, map, slice_index_or}
+use Rattle.std.specs.Prelude.{◌≡◌, ℕ, ◌+◌, ◌<◌, ◌≤◌, ◌^◌, ◌&&◌, if◌then◌else◌, Bool, drop, is_some, nat_lt, nat_le, List, [], ◌∷◌, Option, Some, None, length, map, slice_index_or}
 use Rattle.std.specs.List.{AllByRecursion, flat_map}
 use Rattle.nv_base.specs.Homes.{home_start}
 use Rattle.nv_base.specs.declared.geometry.GeometryNumbers.{GeometryNumbers}
@@ -72,6 +72,10 @@ abbrev pub ArePlaced : ℕ → List (Option BlockValue) → Type 0
 ArePlaced start [] = Unit {0}
 ArePlaced start (None ∷ slots) = ArePlaced (start + 1) slots
 ArePlaced start (Some block ∷ slots) = (block.number ≡ start) × ArePlaced (start + 1) slots
+
+-- from a place on, the flags tell which of these slots have a block
+abbrev pub AreFlagsFrom : ℕ → List Bool → List (Option BlockValue) → Type 0
+AreFlagsFrom at flags slots = (at ≤ length flags) × (drop at flags ≡ map is_some slots)
 
 -- the slots of a free list, the set of its free places and its count fit one another
 pub record IsShelf (start size : ℕ) (slots : List (Option BlockValue)) (free : List Bool) (count : ℕ) : Type 0 where

@@ -1,5 +1,5 @@
 -- Sets of places: for each place from 0 on, whether it is in the set.
-use Rattle.std.specs.Prelude.{◌≡◌, ℕ, ◌+◌, ◌/◌, ◌%◌, ◌^◌, ◌<◌, ◌≤◌, ◌≢◌, ◌==◌, Bool, true, false, min, List, [], ◌∷◌, Option, Some, None, length, map, slice_index, slice_index_or}
+use Rattle.std.specs.Prelude.{◌≡◌, ℕ, ◌+◌, ◌/◌, ◌%◌, ◌^◌, ◌<◌, ◌≤◌, ◌≢◌, ◌==◌, Bool, true, false, if◌then◌else◌, min, List, [], ◌∷◌, Option, Some, None, length, map, slice_index, slice_index_or}
 use Rattle.std.specs.Int.{bit_at}
 use Rattle.std.specs.List.{range_with_len}
 
@@ -23,6 +23,10 @@ IsLowest flags (Some place) = (slice_index_or flags place false ≡ true) × ((k
 -- bit `k` of some words: a word has 64 bits, of which the lowest counts first
 abbrev pub bit_of : List ℕ → ℕ → ℕ
 bit_of words k = bit_at (slice_index words (k / 64)) (k % 64)
+
+-- the bit of a flag
+abbrev pub bit : Bool → ℕ
+bit flag = if flag then 1 else 0
 
 -- how many words so many bits take
 abbrev pub word_count : ℕ → ℕ

@@ -189,7 +189,7 @@ impl FreeList {
         // The free numbers are told as maximal block runs.
         ensures { result ≡ free_runs_of (numbers_of self.now.blocks) }
     {
-        Runs::new(&self.slots, self.start)
+        Runs::new(&self.slots, &self.free, self.start)
     }
 
     /// Moves the blocks of the `n` lowest numbers, or all where there are fewer, to the end of the queue in

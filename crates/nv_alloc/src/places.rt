@@ -1,7 +1,8 @@
 //! A set of places of which the lowest is soon known.
 
-ghost use Rattle.std.specs.Prelude.{◌≡◌, ℕ, ◌/◌, ◌<◌, ◌≤◌, ◌^◌, true, false, IfOk, IfSome, IfNone, length, replicate, slice_index, slice_index_or, slice_set};
-ghost use Rattle.nv_alloc.specs.Places.{IsLowest, bit_of, word_count, AreFirst, AreMarks, AreMarksElsewhere, ShrinksWord, WritesBit};
+ghost use Rattle.std.specs.Prelude.{◌≡◌, ◌≢◌, ℕ, ◌/◌, ◌<◌, ◌≤◌, ◌^◌, true, false, IfOk, IfSome, IfNone, length, replicate, slice_index, slice_index_or, slice_set};
+ghost use Rattle.std.specs.Int.{bit_at};
+ghost use Rattle.nv_alloc.specs.Places.{IsLowest, bit, bit_of, word_count, AreFirst, AreMarks, AreMarksElsewhere, ShrinksWord, WritesBit};
 
 use std::alloc::{AllocError, Global};
 use std::marker::Model;
@@ -84,6 +85,23 @@ impl PlaceSet {
         Some(place)
     }
 
+    /// The first place from one on that is not in the set where `full`, or else that is; behind all places where there
+    /// is none. Costs a word for each 64 places that it passes.
+    pub(crate) fn end_from(&self, from: u32, full: bool) -> u32
+        requires { from ≤ length self.now }
+        ensures from { from ≤ result }
+        ensures within { result ≤ length self.now }
+        ensures before { (k : ℕ) → from ≤ k → k < result
+            → slice_index_or self.now k false ≡ full }
+        ensures at { result < length self.now → slice_index_or self.now result false ≢ full }
+    {
+        let end = end_of_bits(&self.bits, from as usize, full);
+        if end < self.len as usize {
+            return end as u32;
+        }
+        self.len
+    }
+
     pub(crate) fn insert(&mut self, place: u32)
         requires { place < length self.old }
         ensures { self.new ≡ slice_set self.old place true }
@@ -164,6 +182,49 @@ fn lowest_in(words: &[u64], at: usize) -> usize
 {
     let bit = words[at].trailing_zeros() as usize;
     at * 64 + bit
+}
+
+/// A word with a bit where this one has none or has one, as `full` says.
+fn unlike(word: u64, full: bool) -> u64
+    ensures like { (i : ℕ) → i < 64 → bit_at result i ≡ 0 → bit_at word i ≡ bit full }
+    ensures unlike { (i : ℕ) → i < 64 → bit_at result i ≡ 1 → bit_at word i ≢ bit full }
+{
+    if full {
+        return !word;
+    }
+    word
+}
+
+/// The lowest bit of a word from one on.
+fn lowest_from(word: u64, from: u32) -> Option<u32>
+    requires { from < 64 }
+    ensures some { IfSome result (λ at. (from ≤ at) × (at < 64) × (bit_at word at ≡ 1)
+        × ((i : ℕ) → from ≤ i → i < at → bit_at word i ≡ 0)) }
+    ensures none { IfNone result ((i : ℕ) → from ≤ i → i < 64 → bit_at word i ≡ 0) }
+{
+    let rest = word >> from;
+    if rest == 0 {
+        return None;
+    }
+    Some(from + rest.trailing_zeros())
+}
+
+/// The first bit from one on that is not set where `full`, or else that is; behind all words where there is none.
+fn end_of_bits(words: &[u64], from: usize, full: bool) -> usize
+    requires { length words.now ≤ 2 ^ 26 }
+    ensures from { from ≤ result }
+    ensures before { (k : ℕ) → from ≤ k → k < result → k / 64 < length words.now
+        → bit_of words.now k ≡ bit full }
+    ensures at { result / 64 < length words.now → bit_of words.now result ≢ bit full }
+{
+    for at in from / 64..words.len() {
+        let low = from.saturating_sub(at * 64);
+        let ends = unlike(words[at], full);
+        if let Some(end) = lowest_from(ends, low as u32) {
+            return at * 64 + end as usize;
+        }
+    }
+    from.max(words.len() * 64)
 }
 
 fn set_bit(words: &mut Vec<u64>, at: usize)
