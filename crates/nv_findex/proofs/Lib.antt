@@ -8,4 +8,5 @@ pub mod PlaceParts
 pub mod PutIn
 pub mod PutPlaces
 pub mod Rows
+pub mod RowPushes
 pub mod Moves

@@ -58,16 +58,16 @@ starts_push [] len n h e = (omega arith, omega arith, omega arith)
 starts_push (s ∷ ss) len n h e = (h.0, omega arith, starts_push ss (len - 64) (n - 64) h.2 (omega arith))
 
 -- a list in rows as what is before a row, the row and what is behind it
-abbrev row_front : {A : Type 0} → List ℕ → ℕ → ℕ → List A → List A
+abbrev pub row_front : {A : Type 0} → List ℕ → ℕ → ℕ → List A → List A
 row_front ss q a xs = in_rows (take q ss) (take a xs)
 
-abbrev row_at : {A : Type 0} → ℕ → List A → List A
+abbrev pub row_at : {A : Type 0} → ℕ → List A → List A
 row_at a xs = take 64 (drop a xs)
 
-abbrev row_back : {A : Type 0} → List ℕ → ℕ → ℕ → List A → List A
+abbrev pub row_back : {A : Type 0} → List ℕ → ℕ → ℕ → List A → List A
 row_back ss q a xs = in_rows (drop (suc q) ss) (drop (a + 64) xs)
 
-split_row : {A : Type 0} (ss : List ℕ) (q a : ℕ) (xs : List A) → a ≡ q * 64 → q < length ss
+pub split_row : {A : Type 0} (ss : List ℕ) (q a : ℕ) (xs : List A) → a ≡ q * 64 → q < length ss
     → in_rows ss xs ≡ row_front ss q a xs ++ (turned (get_or ss q 0) (row_at a xs) ++ row_back ss q a xs)
 unfolding in_rows
 split_row [] q a xs e lt = absurd (omega arith)
@@ -82,7 +82,7 @@ split_row (s ∷ ss) (suc q) a xs e lt =
     (ap (λ l. turned s (take 64 xs) ++ l) (split_row ss q (a - 64) (drop 64 xs) (omega arith) (omega arith))
     ∙ sym (append_assoc (turned s (take 64 xs)) (row_front ss q (a - 64) (drop 64 xs)) _))
 
-take_past : {A : Type 0} (n : ℕ) (p q : List A) (m : ℕ) → length p ≡ m → m ≤ n → take n (p ++ q) ≡ p ++ take (n - m) q
+pub take_past : {A : Type 0} (n : ℕ) (p q : List A) (m : ℕ) → length p ≡ m → m ≤ n → take n (p ++ q) ≡ p ++ take (n - m) q
 take_past n [] q m e le = let none : n ≡ n - m = omega arith in ap (λ k. take k q) none
 take_past zero (x ∷ p) q m e le = absurd (omega arith)
 take_past (suc n) (x ∷ p) q m e le =
@@ -110,10 +110,10 @@ with_row ss q a v k xs x e lt in' =
       drop-set-lt (a + 64) xs (a + k) x (omega arith),
     ) refl
 
-length_front : {A : Type 0} (ss : List ℕ) (q a : ℕ) (xs : List A) → a ≤ length xs → length (row_front ss q a xs) ≡ a
+pub length_front : {A : Type 0} (ss : List ℕ) (q a : ℕ) (xs : List A) → a ≤ length xs → length (row_front ss q a xs) ≡ a
 length_front ss q a xs le = length_rows (take q ss) (take a xs) ∙ omega (arith, length-take a xs)
 
-length_row : {A : Type 0} (a : ℕ) (xs : List A) → a + 64 ≤ length xs → length (row_at a xs) ≡ 64
+pub length_row : {A : Type 0} (a : ℕ) (xs : List A) → a + 64 ≤ length xs → length (row_at a xs) ≡ 64
 length_row a xs le = omega (arith, length-take 64 (drop a xs), length-drop a xs)
 
 -- an item of a ring
@@ -184,10 +184,10 @@ insert_behind a f t b c e k =
     ∙ rw (all, insert-append_left t b (length t) c (omega arith), insert_end t c) refl
 
 module _ {A : Type 0} (ss : List ℕ) (q a : ℕ) (xs : List A) (h : AreStarts ss (length xs)) (lt : q < length ss) (e : a ≡ q * 64) where
-  row_fits : a + 64 ≤ length xs
+  pub row_fits : a + 64 ≤ length xs
   row_fits = omega (arith, (starts_count ss (length xs) h).0)
 
-  row_item : (k : ℕ) (d : A) → k < 64 → get_or (row_at a xs) k d ≡ get_or xs (a + k) d
+  pub row_item : (k : ℕ) (d : A) → k < 64 → get_or (row_at a xs) k d ≡ get_or xs (a + k) d
   row_item k d in' = get_or-take 64 (drop a xs) k d in' ∙ get_or-drop a xs k d
 
   pub row_get : (r : ℕ) (d : A) → r < 64 → get_or (in_rows ss xs) (a + r) d ≡ get_or xs (a + (get_or ss q 0 + r) % 64) d

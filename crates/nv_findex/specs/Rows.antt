@@ -14,6 +14,10 @@ pub record RunList : Type 0 where
 abbrev pub turned : {A : Type 0} → ℕ → List A → List A
 turned s xs = drop s xs ++ take s xs
 
+-- the list after an item was put at place i, those from there on and before place j moved by one, and the last of them taken out
+abbrev pub pushed : {A : Type 0} → ℕ → ℕ → A → List A → List A
+pushed i j x xs = take i xs ++ (x ∷ take (j - 1 - i) (drop i xs) ++ drop j xs)
+
 -- the list that lies in full rows, each a ring from a start of its own, and in what is behind them
 unfoldable pub in_rows : {A : Type 0} → List ℕ → List A → List A
 in_rows [] xs = xs

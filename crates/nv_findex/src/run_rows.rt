@@ -1,8 +1,8 @@
 //! A list of page runs in rows.
 
-ghost use Rattle.std.specs.Prelude.{◌≡◌, ◌+◌, ◌*◌, ◌/◌, ◌^◌, ◌<◌, ◌≤◌, [], ◌∷◌, ◌++◌, length, take, drop, set, slice_get, slice_index_or, vec_len, vec_capacity, max, OnOk, OnErr};
+ghost use Rattle.std.specs.Prelude.{◌≡◌, ◌+◌, ◌-◌, ◌*◌, ◌/◌, ◌^◌, ◌<◌, ◌≤◌, [], ◌∷◌, ◌++◌, length, take, drop, set, slice_get, slice_index_or, vec_len, vec_capacity, max, OnOk, OnErr};
 ghost use Rattle.std.specs.List.{insert};
-ghost use Rattle.nv_findex.specs.Rows.{AreStarts, slot, turned};
+ghost use Rattle.nv_findex.specs.Rows.{AreStarts, pushed, slot, turned};
 
 use crate::PageRun;
 use std::alloc::{AllocError, Global};
@@ -58,6 +58,21 @@ fn insert_with_room(runs: &mut Vec<PageRun>, place: usize, run: PageRun)
         return runs.push_reserved(run);
     }
     let _there_is_room = runs.insert(place, run);
+}
+
+/// Puts a run at the place `from`, moves those from there on and before `to` by one, and takes the last of them out.
+fn push_within(runs: &mut Vec<PageRun>, from: usize, to: usize, run: PageRun) -> PageRun
+    requires order { from < to }
+    requires within { to ≤ vec_len runs.old }
+    ensures items { runs.new.items ≡ pushed from to run runs.old.items }
+    ensures value { result ≡ slice_index_or runs.old.items (to - 1) result }
+    ensures len { vec_len runs.new ≡ vec_len runs.old }
+    ensures capacity { vec_capacity runs.new ≡ vec_capacity runs.old }
+{
+    let out = runs[to - 1];
+    runs.copy_within(from..to - 1, from + 1);
+    runs[from] = run;
+    out
 }
 
 /// Turns a row so that it begins with the run at its place `start`.
@@ -165,22 +180,28 @@ impl RunRows {
         out
     }
 
-    /// Puts a run at the place `from`, moves those from there on and before `to` by one, and takes the last of them out.
-    fn move_up(&mut self, from: usize, to: usize, run: PageRun) -> PageRun
-        requires order { from ≤ to }
-        requires within { to ≤ length self.old.items }
-        ensures items { insert self.old.items from run ≡ insert self.new.items to result }
+    /// Puts a run at a place of a full row, moves those behind it in that row by one, and takes the last of them out.
+    fn push_in_row(&mut self, place: usize, run: PageRun) -> PageRun
+        requires { place / ROW * ROW + ROW ≤ length self.old.items }
+        ensures items { insert self.old.items place run
+            ≡ insert self.new.items (place / ROW * ROW + ROW) result }
         ensures len { length self.new.items ≡ length self.old.items }
         ensures capacity { self.new.capacity ≡ self.old.capacity }
     {
-        let mut out = run;
-        for place in from..to {
-            out = self.replace(place, out);
+        let first = place / ROW * ROW;
+        let start = self.starts[place / ROW] as usize;
+        let at = first + (start + place % ROW) % ROW;
+        if at < first + start {
+            return push_within(&mut self.runs, at, first + start, run);
         }
-        out
+        let out = push_within(&mut self.runs, at, first + ROW, run);
+        if start == 0 {
+            return out;
+        }
+        push_within(&mut self.runs, first, first + start, out)
     }
 
-    /// `move_up` over whole rows.
+    /// `pass_on` over whole rows.
     fn pass_rows(&mut self, from: usize, to: usize, run: PageRun) -> PageRun
         requires order { from ≤ to }
         requires within { to * ROW ≤ length self.old.items }
@@ -223,7 +244,7 @@ impl RunRows {
             return self.insert_last(place, run);
         }
         let next_row = place / ROW + 1;
-        let out = self.move_up(place, next_row * ROW, run);
+        let out = self.push_in_row(place, run);
         let out = self.pass_rows(next_row, last_row, out);
         self.insert_last(last_row * ROW, out);
     }
