@@ -56,6 +56,7 @@ impl BlockQueue {
     }
 
     /// Makes room for `n` more blocks: `OutOfMemory` where there is none, and nothing has changed.
+    #[inline(always)]
     pub fn reserve(&mut self, n: u64) -> Result<(), Fault>
         // Room for blocks is made before they come.
         ensures ok { OnOk result (self.new ≡ record self.old { room = max self.old.room n }) }

@@ -168,6 +168,7 @@ impl Book {
     /// room that there was is less than `need`. More than 2^62 records in all, which no device has parts for, count as want
     /// of memory. It costs what it makes room for, however many records and snapshots there are, and constant time where no
     /// snapshot lives.
+    #[inline(always)]
     pub fn enter(&mut self, seat: u64, need: u64) -> Result<(Epoch, CommitNo), Fault>
         // A commit gets the next number and is noted.
         // A commit that was entered has room for the records asked for, whatever manifests they go to.
@@ -204,6 +205,7 @@ impl Book {
 
     /// Puts the record of a killed part to the end of the manifest of its youngest living holder, and answers whether
     /// it has one. It takes no memory, and costs the logarithm of the number of snapshots.
+    #[inline(always)]
     pub fn retire(&mut self, killed: Record) -> Retired
         requires dead { killed.death ≤ self.old.state.snaps.epoch }
         // As many records as were asked for are retired without memory.

@@ -84,6 +84,7 @@ impl Commit {
     }
 
     /// The hand alone, wherever the commit stands: for a machine that stops. Takes no memory.
+    #[inline(always)]
     pub fn abandon(self) -> Hand
         ensures { result ≡ self.hand }
     {

@@ -74,6 +74,7 @@ fn page_before<'a, C: Cells>(
 
 /// Fills the block at a place with an old page, and with the part that lies in this page of a text from `offset` on.
 /// The source is asked once.
+#[inline(always)]
 fn fill_part<S: Source>(
     queue: &mut BlockQueue,
     place: usize,

@@ -86,6 +86,7 @@ impl<C: Cells> Nodes for HeldNodes<'_, C> {
         }
     }
 
+    #[inline(always)]
     fn size(&self, file: &Handle) -> u64 {
         let Some(cell) = self.cell_of(file.ino) else {
             return 0;

@@ -12,6 +12,7 @@ use nv_base::{Handle, Ino};
 
 /// The slots that a call locks, of so many: those of the number that it has for a new inode, of its handles, and of what
 /// its looks found. A number out of range has no slot.
+#[inline(always)]
 pub fn slots_of(
     inodes: u64,
     number: Option<Ino>,

@@ -49,6 +49,7 @@ pub(crate) fn bound<N: Nodes>(nodes: &N, dir: &Handle, name: &[u8]) -> Option<Ha
 }
 
 /// What the names of a call lead to now.
+#[inline(always)]
 pub fn look_all<N: Nodes>(nodes: &N, call: &Update) -> LookupResult
     // The looks of a call tell what its names lead to.
     ensures { result ≡ looked (N.nodes_of nodes.now) (blank_call call.now) }

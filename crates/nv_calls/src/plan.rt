@@ -41,6 +41,7 @@ impl InodePlan {
 }
 
 /// A list of one.
+#[inline(always)]
 pub(crate) fn list_of_one<T: Drop>(alloc: Global, item: T) -> Result<Items<T>, AllocError>
     ensures { IfOk result (λ items. items ≡ item ∷ []) }
 {

@@ -16,6 +16,7 @@ use nv_base::Fault;
 use std::alloc::Global;
 
 /// Whether a call that is not refused commits nothing.
+#[inline(always)]
 pub fn is_nothing(call: &Update) -> bool
     // A call that commits nothing is told.
     ensures { result ≡ is_nothing (blank_call call.now) }

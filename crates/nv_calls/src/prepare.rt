@@ -96,6 +96,7 @@ fn or_none(made: &Option<Handle>) -> Handle
 }
 
 /// Takes out what is planned for an inode.
+#[inline(always)]
 fn take_items(alloc: Global, planned: &mut Vec<InodePlan>, ino: Ino) -> Vec<Item>
     ensures items { result.items ≡ items_for planned.old.items ino }
     ensures others { (other : ℕ) → (other ≡ ino → ⊥)

@@ -66,6 +66,7 @@ fn stat_in(cell: &InodeCell, handle: &Handle) -> Option<Stat>
 }
 
 /// The kind of the node under a handle of the cell's slot.
+#[inline(always)]
 pub(crate) fn kind_in(cell: &InodeCell, handle: &Handle) -> Option<Kind>
     ensures { (bytes : ℕ → List ℕ) → result
         ≡ kind_of (copy_of bytes cell.now.state handle.now) }

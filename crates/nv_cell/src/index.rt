@@ -114,6 +114,7 @@ impl CellIndex {
     }
 
     /// The part that holds a key.
+    #[inline(always)]
     pub fn part(&self, key: Key<'_>) -> Option<PartRef>
         ensures { result ≡ ref_of self.now (key_named key.entry) }
     {
@@ -203,6 +204,7 @@ impl CellIndex {
     }
 
     /// The parts of an entry hold their keys now.
+    #[inline(always)]
     pub fn put(&mut self, block: u64, entry: &Entry)
         requires block { 0 < block }
         requires room { page_runs_needed entry.now.item ≤ self.old.pages.room }

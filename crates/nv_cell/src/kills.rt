@@ -105,6 +105,7 @@ fn push_stretch(
 
 /// Puts the parts on the list that the pages of a range have. Costs one look-up, and for each run in the index the
 /// search for its entry.
+#[inline(always)]
 fn push_pages(
     killed: &mut Vec<NumberedPart>,
     chain: &Chain,
@@ -203,6 +204,7 @@ fn push_stat(killed: &mut Vec<NumberedPart>, chain: &Chain, marks: &Marks, index
 }
 
 /// Puts the parts on the list that an item kills.
+#[inline(always)]
 pub fn push_covered(
     killed: &mut Vec<NumberedPart>,
     chain: &Chain,

@@ -171,6 +171,7 @@ impl Marks {
     /// Makes room for the marks of so many parts and entries more, and for so many pages in all.
     ///
     /// `OutOfMemory` where a growth was refused: then nothing has changed but room.
+    #[inline(always)]
     pub fn reserve(&mut self, parts: usize, entries: usize, pages: usize) -> Result<(), Fault>
         ensures same { HaveGrown self.old self.new }
         ensures spare { OnOk result (HasSpare self.new parts entries) }
@@ -241,6 +242,7 @@ impl Marks {
 
     /// Gives a part that is not out another mark than current. Its entry's tally and its page's counts go along. The
     /// time is that of the searches for its entry and its page.
+    #[inline(always)]
     pub fn set(&mut self, page_ends: &[usize], part: NumberedPart, mark: Mark)
         requires there { is_there (mark_at self.old.marks.items part.number) ≡ true }
         requires ended { is_current mark ≡ false }

@@ -55,6 +55,7 @@ fn present_from(index: &CellIndex, page: u64) -> usize
 }
 
 /// How many parts an item kills at most behind others, which add so many pages, where so many names are bound.
+#[inline(always)]
 pub fn weight_of(index: &CellIndex, block: u64, pages: usize, names: usize, item: &Item) -> usize
     requires { 0 < block }
     ensures { result ≡ min (weight block (λ from. present_from from index.now.pages.pages + pages)

@@ -65,6 +65,7 @@ fn place_of(item: &Item, part: Part) -> Option<u32>
 }
 
 /// A part of a published entry by its name, if the log has it. The time is that of the search for the entry.
+#[inline(always)]
 pub fn find_part(chain: &Chain, marks: &Marks, id: PartId) -> Option<NumberedPart>
     requires ends { (i : ℕ) → i < chain.now.state.tail
         → start_at marks.now.ends.items i ≡ part_base chain.now.state.entries i }

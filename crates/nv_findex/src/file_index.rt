@@ -94,6 +94,7 @@ impl FileIndex {
     /// pages that goes on from each run's end costs one look-up, and the logarithm of how many empty places lie behind
     /// each run.
     #[tactic(auto, using(crate::proofs::Refs::refs_within))]
+    #[inline(always)]
     pub fn run_near(&self, page: u32, place: &mut usize) -> Option<PageRun>
         ensures run { IsRunFrom page (ref_at self.now.pages) result }
         ensures within { IfSome result (λ run. IsRun run) }
@@ -151,6 +152,7 @@ impl FileIndex {
     /// 2^63 bytes or more is; then nothing has changed. A growth that is refused though there is that room with the
     /// empty places is no error: nothing has changed then either, and `set_run` takes the empty places out itself.
     #[tactic(auto, using(crate::proofs::Counts::run_count_is))]
+    #[inline(always)]
     pub fn reserve_for(&mut self, runs: usize) -> Result<(), Fault>
         // Room for a number of writes is made before them.
         ensures pages { self.new.pages ≡ self.old.pages }

@@ -218,6 +218,7 @@ impl RunRows {
     }
 
     /// Puts a run at a place behind the full rows.
+    #[inline(always)]
     fn insert_last(&mut self, place: usize, run: PageRun)
         requires last { length self.old.items / ROW * ROW ≤ place }
         requires within { place ≤ length self.old.items }

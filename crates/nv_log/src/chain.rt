@@ -195,6 +195,7 @@ impl Chain {
 
     /// The place of the entry of that id, in append order. The time grows with the logarithm of the entries.
     /// Only tested: how far a commit run reaches.
+    #[inline(always)]
     pub fn place_of(&self, id: EntryId) -> Option<usize>
         // An entry whose place a commit run tells is found.
         // A commit run tells the right place.

@@ -135,6 +135,7 @@ impl CallWord {
     }
 
     /// The call that the third word names, as in `do ACTOR CALL`.
+    #[inline(always)]
     pub(crate) fn third(words: &[&[u8]]) -> Result<CallWord, ScriptFaultKind>
         ensures { result ≡ third_call (texts words.now) }
     {

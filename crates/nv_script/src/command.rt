@@ -130,6 +130,7 @@ fn none_empty(words: &[&[u8]]) -> bool
 
 impl Head {
     /// What the first words name.
+    #[inline(always)]
     fn named(words: &[&[u8]]) -> Result<Head, ScriptFaultKind>
         ensures { result ≡ head_of (texts words.now) }
     {

@@ -44,6 +44,7 @@ impl<'a> Telling<'a> {
 }
 
 /// Makes what stands before the answers to the line with this number, in place of what `head` held.
+#[inline(always)]
 pub(crate) fn make_head(
     trace: Trace,
     echo: Echo,

@@ -44,6 +44,7 @@ pub(crate) fn records_at(words: &[&[u8]], place: usize) -> Result<u64, ScriptFau
     positive(limits::DRAIN, word_at(words, place)).ok_or(ScriptFaultKind::Number)
 }
 
+#[inline(always)]
 pub(crate) fn text_at(alloc: Global, words: &[&[u8]], place: usize) -> Result<Bytes, LineFault>
     ensures { Reads result (value_at Field.Text (texts words.now) place) }
 {

@@ -198,6 +198,7 @@ fn push_answer(out: &mut Vec<u8>, answer: &Answer) -> Result<(), AllocError>
 }
 
 /// Adds the line of an answer.
+#[inline(always)]
 fn push_done(out: &mut Vec<u8>, answer: &Answer) -> Result<(), AllocError>
     ensures { OnOk result (out.new.items ≡ out.old.items ++ reply_line (Done answer.now)) }
 {

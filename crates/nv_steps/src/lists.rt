@@ -101,6 +101,7 @@ pub fn give(list: &mut FreeList, hand: &mut Hand, geometry: &Geometry) -> LeftIn
 }
 
 /// What is left in a hand. Costs the blocks in it.
+#[inline(always)]
 pub fn left_in_hand(hand: &Hand, geometry: &Geometry) -> LeftInHand
     // The home that is told is the first of all that some block in the hand has.
     ensures home { (numbers : GeometryNumbers) (from : ℕ) (s : machine.Shared)
