@@ -18,7 +18,7 @@ same_some a b e = ap (λ (o : Option Running). unwrap_or o a) e
 pub has_turned : (actor : ℕ) (old : Shared) (before : Reservation) (running call : Running) (r : machine.Running) (t : Turn) (answer : Reply)
     (new : Shared) (h : Reservation) (after : Running) (state : Actor) → running ≡ call → ShowsCall before running r
     → ((x : machine.Running) → ShowsCall before call x → IsTurn actor old before x t new h after)
-    → (t ≡ turn.Waits → (new ≡ old) × (h ≡ before) × (after ≡ call)) → state.reserved ≡ h → state.running ≡ still t after → answer ≡ replied t
+    → (t ≡ turn.Waits → (new ≡ old) × (h ≡ before) × (after ≡ call)) → state.reserved ≡ h → state.running ≡ still t after → answer ≡ replied t after.answer
     → HasTurned actor old before running r answer new state
 has_turned actor old before running call r t answer new h after state same shows by waits hold_is left told = record {
   result = t;

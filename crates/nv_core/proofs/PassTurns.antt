@@ -51,7 +51,7 @@ pub shows_hold : (t : Turn) (h : Reservation) (after : Running) (told : ShownCal
     → IsPlacedBy (slots_in after.slots) h told → ShowsAfter t h after (shown_by h told after)
 shows_hold result.Moves h after told is of placed = shows_call h after told is of placed
 shows_hold result.Waits h after told is of placed = shows_call h after told is of placed
-shows_hold (result.Ends answer) h after told is of placed = tt
+shows_hold result.Ends h after told is of placed = tt
 
 -- a plan is told of what is ready, and a commit of what enters
 call_planned : (h : Reservation) (block : ℕ) (s : machine.Shared) (hand : machine.HandState) (r : machine.Running) (told : ShownCall) (after : Running)
@@ -74,7 +74,7 @@ pub turns_ready : (actor : ℕ) (shared : Shared) (hand : Hand) (running : Runni
     (shown told running) told in
     IsEither (λ granted. kind_turn machine.Ready shared.geometry.numbers.block actor granted (shared_of shared) (hand_of hand)
     (shown told running))
-    (turn_of done.1 (shared_of shared_after) (held_by done.0) (shown_by done.0 t after))
+    (turn_of done.1 after.answer (shared_of shared_after) (held_by done.0) (shown_by done.0 t after))
     × IsReservationOf (slots_in running.slots) done.0 t × IsPlacedBy (slots_in running.slots) done.0 t)
     → IsTurn actor shared (reserved.Hand hand) r done.1 shared_after done.0 after
 turns_ready actor shared hand running r done shared_after after here shows same keeps by =
@@ -83,7 +83,7 @@ turns_ready actor shared hand running r done shared_after after here shows same 
     let t = planned done.0 block (shared_of shared) (hand_of hand) (shown told running) told in
     let all = by told shows.request in
     let one = either (λ granted. kind_turn machine.Ready block actor granted (shared_of shared) (hand_of hand) (shown told running))
-    (turn_of done.1 (shared_of shared_after) (held_by done.0) (shown_by done.0 t after)) all.0 in
+    (turn_of done.1 after.answer (shared_of shared_after) (held_by done.0) (shown_by done.0 t after)) all.0 in
     record {
       granted = one.0;
       after = shown_by done.0 t after;
@@ -106,7 +106,7 @@ pub turns_enter : (actor : ℕ) (shared : Shared) (ready : ReadyValue) (running 
     → let t = shown_in done.0 shared.book.state told in
     IsEither (λ granted. kind_turn machine.Enter shared.geometry.numbers.block actor granted (shared_of shared) (hand_of ready.hand)
     (shown_by (reserved.Ready ready) told running))
-    (turn_of done.1 (shared_of shared_after) (held_by done.0) (shown_by done.0 t after))
+    (turn_of done.1 after.answer (shared_of shared_after) (held_by done.0) (shown_by done.0 t after))
     × IsReservationOf (slots_in running.slots) done.0 t × IsPlacedBy (slots_in running.slots) done.0 t)
     → IsTurn actor shared (reserved.Ready ready) r done.1 shared_after done.0 after
 turns_enter actor shared ready running r done shared_after after shows same keeps by =
@@ -116,7 +116,7 @@ turns_enter actor shared ready running r done shared_after after shows same keep
     let all = by told shows.plan shows.place in
     let one = either (λ granted. kind_turn machine.Enter block actor granted (shared_of shared) (hand_of ready.hand)
     (shown_by (reserved.Ready ready) told running))
-    (turn_of done.1 (shared_of shared_after) (held_by done.0) (shown_by done.0 t after)) all.0 in
+    (turn_of done.1 after.answer (shared_of shared_after) (held_by done.0) (shown_by done.0 t after)) all.0 in
     record {
       granted = one.0;
       after = shown_by done.0 t after;
@@ -133,7 +133,7 @@ pub turns_leave : (actor : ℕ) (shared : Shared) (commit : CommitValue) (runnin
     → ((told : ShownCall) → IsShownCallOf running told → IsShownCallOf after told)
     → ((told : ShownCall) → IsShownCallOf running told
     → kind_turn machine.Leave shared.geometry.numbers.block actor true (shared_of shared) (held_by (reserved.Commit commit))
-    (shown_at machine.Leave told running) ≡ turn_of done.1 (shared_of shared_after) (hand_of done.0) (shown told after))
+    (shown_at machine.Leave told running) ≡ turn_of done.1 after.answer (shared_of shared_after) (hand_of done.0) (shown told after))
     → IsTurn actor shared (reserved.Commit commit) r done.1 shared_after (reserved.Hand done.0) after
 turns_leave actor shared commit running r done shared_after after here shows keeps by =
     let told = shown_call_of r in

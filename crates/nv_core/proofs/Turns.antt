@@ -1,7 +1,9 @@
 -- Each kind of step as the turn of its call.
-use Rattle.std.specs.Prelude.{◌≢◌}
+use Rattle.std.specs.Prelude.{◌≢◌, Result}
 use Rattle.std.proofs.Common.{◌≡◌, ◌∙◌, ℕ, Bool, true, false, ap, refl, subst, sym, inl, inr}
 use Rattle.nv_alloc.specs.declared.hand.Hand.{Hand}
+use Rattle.nv_base.specs.declared.fault.Fault.{Fault}
+use Rattle.nv_calls.specs.declared.answer.Answer.{Answer}
 use Rattle.nv_calls.specs.declared.call.Call.{Call}
 use Rattle.nv_machine.specs.Step as machine_step
 use Rattle.nv_machine.specs.World as machine
@@ -38,13 +40,13 @@ TurnsAlone next actor shared hand running result shared_after hand_after after =
     → (granted : Bool) × (machine_step.kind_turn (next_of next) shared.geometry.numbers.block actor granted (shared_of shared)
     (hand_of hand)
     (shown told running)
-    ≡ turn_of result (shared_of shared_after) (hand_of hand_after) (shown told after))
+    ≡ turn_of result after.answer (shared_of shared_after) (hand_of hand_after) (shown told after))
 
 shows_after : (result : Turn) (hand : Hand) (after : Running) (told : ShownCall) → IsShownCallOf after told
     → ShowsAfter result (reserved.Hand hand) after (shown told after)
 shows_after turn.Moves hand after told is = record { shown = refl; request = is; plan = tt; place = tt }
 shows_after turn.Waits hand after told is = record { shown = refl; request = is; plan = tt; place = tt }
-shows_after (turn.Ends result) hand after told is = tt
+shows_after turn.Ends hand after told is = tt
 
 turned : (next : Next) (actor : ℕ) (shared : Shared) (hand : Hand) (running : Running) (r : machine.Running) (result : Turn)
     (shared_after : Shared) (hand_after : Hand) (after : Running) → running.next ≡ next → ShowsCall (reserved.Hand hand) running r
@@ -121,7 +123,7 @@ visit_after : (result : Turn) (hand : Hand) (running after : Running) (told : Sh
 visit_after turn.Moves hand running after told ends waits is = absurd (ends refl)
 visit_after turn.Waits hand running after told ends waits is =
     record { shown = refl; request = subst (λ (x : Running). IsShownCallOf x told) (sym (waits refl)) is; plan = tt; place = tt }
-visit_after (turn.Ends result) hand running after told ends waits is = tt
+visit_after turn.Ends hand running after told ends waits is = tt
 
 pub turns_visit : (actor : ℕ) (shared : Shared) (hand : Hand) (running : Running) (r : machine.Running) (result : Turn) (after : Running)
     → running.next ≡ next.Visit → ShowsCall (reserved.Hand hand) running r → (result ≢ turn.Moves) → (result ≡ turn.Waits → after ≡ running)
@@ -132,9 +134,10 @@ turns_visit actor shared hand running r result after here shows ends waits =
     (λ told is. visit_after result hand running after told ends waits is)
 
 -- an empty hand is that of the call
-pub visit_any : (h empty : machine.HandState) (by : Bool → machine.HandState → machine.Turn) (result : Turn) (s : machine.Shared)
-    (r : machine.Running) → h ≡ empty → IsEither (λ granted. by granted empty) (turn_of result s empty r)
-    → (granted : Bool) × (by granted h ≡ turn_of result s h r)
-visit_any h empty by result s r same is =
-    subst (λ (x : machine.HandState). (granted : Bool) × (by granted x ≡ turn_of result s x r)) (sym same)
-    (either (λ granted. by granted empty) (turn_of result s empty r) is)
+pub visit_any : (h empty : machine.HandState) (by : Bool → machine.HandState → machine.Turn) (result : Turn)
+    (answer : Result Answer Fault) (s : machine.Shared) (r : machine.Running) → h ≡ empty
+    → IsEither (λ granted. by granted empty) (turn_of result answer s empty r)
+    → (granted : Bool) × (by granted h ≡ turn_of result answer s h r)
+visit_any h empty by result answer s r same is =
+    subst (λ (x : machine.HandState). (granted : Bool) × (by granted x ≡ turn_of result answer s x r)) (sym same)
+    (either (λ granted. by granted empty) (turn_of result answer s empty r) is)

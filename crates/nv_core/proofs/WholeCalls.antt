@@ -1,5 +1,5 @@
 -- Whole calls: one step more of an actor's call, at the end of some, up to its last.
-use Rattle.std.proofs.Common.{◌≡◌, ◌≢◌, ℕ, zero, suc, ◌+◌, ◌≤◌, ◌∙◌, arith, Bool, true, false, List, [], ◌∷◌, ◌++◌, Option, Some, None, Result, Ok, Err, ap, replicate, refl, subst, sym, nat_lt, length}
+use Rattle.std.proofs.Common.{◌≡◌, ◌≢◌, ℕ, zero, suc, ◌+◌, ◌<◌, ◌≤◌, ◌∙◌, arith, Bool, true, false, List, [], ◌∷◌, ◌++◌, Option, Some, None, Result, Ok, Err, ap, replicate, refl, subst, sym, nat_lt, length}
 use Rattle.nv_calls.specs.declared.answer.Answer.{Answer}
 use Rattle.nv_calls.specs.declared.call.Call.{Call}
 use Rattle.nv_machine.specs.Step.{after, go_step, replies, start_step, step, turned}
@@ -11,7 +11,8 @@ use Rattle.nv_core.specs.declared.event.Reply.{Reply}
 use Rattle.nv_core.specs.declared.event.Reply.TheVariants.{Done, Moved, Refused, Started, Stopped, Waits}
 use Rattle.nv_core.specs.declared.whole.CallFault.{CallFault}
 use Rattle.nv_core.specs.Whole.{Calls, GoesOn, HasMoved, Runs, RunsFrom, last_reply}
-use Rattle.nv_core.specs.Worlds.{IsBounded, IsStep, Leads, Shows, WorldState, gos, most_goes, reply_of}
+use Rattle.nv_core.specs.Worlds.{IsBounded, IsStep, Leads, Shows, WorldState, gos, most_goes, reply_of, told_by}
+use Rattle.nv_restart.specs.Happenings.{Replied}
 
 -- the world after events and one more
 pub after-more : (w : machine.World) (events : List machine.Event) (e : machine.Event)
@@ -122,6 +123,31 @@ moved_only Waits is = absurd (cc)
 moved_only (Done answer) is = absurd (cc)
 moved_only Stopped is = absurd (cc)
 moved_only (Refused fault) is = absurd (cc)
+
+-- ---- one step
+
+-- where there is no reply before the last, one step was made
+only_one : (w : machine.World) (actor : ℕ) (grants : List Bool) (before : ℕ) (last : machine.Reply) → before < 1
+    → replies w (gos actor grants) ≡ replicate before machine.Moved ++ last ∷ []
+    → (granted : Bool) × (grants ≡ granted ∷ []) × ((step w (machine.Go actor granted)).reply ≡ last)
+only_one w actor [] zero last few all = absurd (cc)
+only_one w actor (granted ∷ []) zero last few all = (granted, refl, cc all)
+only_one w actor (granted ∷ more ∷ grants) zero last few all = absurd (cc)
+only_one w actor grants (suc before) last few all = absurd (omega (arith, few))
+
+-- so a call that goes on once at most has made its next step
+pub goes_once : (old new : WorldState) (actor : ℕ) (reply : Reply) → told_by reply ≡ Replied (reply_of reply)
+    → Leads (λ m n. GoesOn 1 m actor (reply_of reply) n) old new
+    → (m : machine.World) → Shows old m → IsStep m (Go actor) reply new
+goes_once old new actor reply told goes m shows =
+    let by = goes m shows in
+    let had = by.1 in
+    let one = only_one m actor had.grants had.replies.before (reply_of reply) had.replies.few had.replies.all_are in
+    record {
+      granted = one.0;
+      told_is = told ∙ ap Replied (sym one.2);
+      shows = subst (λ (n : machine.World). Shows new n) (had.world ∙ ap (λ (gs : List Bool). after m (gos actor gs)) one.1) by.2;
+    }
 
 -- ---- runs
 

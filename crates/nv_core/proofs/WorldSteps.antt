@@ -1,9 +1,11 @@
 -- A world after one event of an actor.
 use Rattle.std.proofs.Common.{◌≡◌, ◌∙◌, ℕ, ◌<◌, Bool, true, false, List, Option, Some, None, Ok, Err, ap, ap₂, arith, length, refl, subst, sym}
-use Rattle.std.specs.Prelude.{◌==◌, slice_index_or, slice_set}
+use Rattle.std.specs.Prelude.{◌==◌, Result, slice_index_or, slice_set}
 use Rattle.std.proofs.lemmas.Bool.{eqb-false, eqb-true, lt-ltb}
 use Rattle.std.proofs.lemmas.Grind.{get_or-set_at}
 use Rattle.std.proofs.lemmas.List.{ext_get_or, get_or-set_other, length-set}
+use Rattle.nv_base.specs.declared.fault.Fault.{Fault}
+use Rattle.nv_calls.specs.declared.answer.Answer.{Answer}
 use Rattle.nv_machine.specs.Step.{go_step, step, turned}
 use Rattle.nv_machine.specs.Step as machine_step
 use Rattle.nv_machine.specs.World as machine
@@ -80,12 +82,12 @@ set_back actors actor state d lt is =
 -- ---- a turn
 
 -- the reply of a turn is the machine's
-told_turned : (t : Turn) (s : machine.Shared) (h : machine.HandState) (r : machine.Running) (actor : ℕ) (m : machine.World)
-    → told_by (replied t) ≡ Replied (turned (turn_of t s h r) actor m).reply
-told_turned turn.Moves s h r actor m = refl
-told_turned turn.Waits s h r actor m = refl
-told_turned (turn.Ends (Ok answer)) s h r actor m = refl
-told_turned (turn.Ends (Err fault)) s h r actor m = refl
+told_turned : (t : Turn) (result : Result Answer Fault) (s : machine.Shared) (h : machine.HandState) (r : machine.Running) (actor : ℕ)
+    (m : machine.World) → told_by (replied t result) ≡ Replied (turned (turn_of t result s h r) actor m).reply
+told_turned turn.Moves result s h r actor m = refl
+told_turned turn.Waits result s h r actor m = refl
+told_turned turn.Ends (Ok answer) s h r actor m = refl
+told_turned turn.Ends (Err fault) s h r actor m = refl
 
 -- and what it leads to is shown
 shows_turned : (t : Turn) (w : WorldState) (m : machine.World) (actor : ℕ) (d : Actor) (new : Shared) (state : Actor)
@@ -94,7 +96,7 @@ shows_turned : (t : Turn) (w : WorldState) (m : machine.World) (actor : ℕ) (d 
     → new.geometry ≡ w.shared.geometry → ShowsAfter t state.reserved after r
     → (t ≡ turn.Waits → (new ≡ w.shared) × (state.reserved ≡ (slice_index_or w.actors actor d).reserved) × (after ≡ running))
     → state.running ≡ still t after
-    → Shows (world_with new actor state w) (turned (turn_of t (shared_of new) (held_by state.reserved) r) actor m).world
+    → Shows (world_with new actor state w) (turned (turn_of t after.answer (shared_of new) (held_by state.reserved) r) actor m).world
 shows_turned turn.Moves w m actor d new state running after r shows lt is same shown waits left =
     shows_set w m actor state (record { hand = held_by state.reserved; running = Some r }) new shows lt same
     (record { hand = refl; running = subst (λ (o : Option Running). ShowsRunning state.reserved o (Some r)) (sym left) shown })
@@ -106,7 +108,7 @@ shows_turned turn.Waits w m actor d new state running after r shows lt is same s
     let actors = set_back w.actors actor state d lt back in
     subst (λ (v : WorldState). Shows v m)
     (sym (ap₂ (λ (s : Shared) (xs : List Actor). let v : WorldState = record { shared = s; actors = xs } in v) all.0 actors)) shows
-shows_turned (turn.Ends result) w m actor d new state running after r shows lt is same shown waits left =
+shows_turned turn.Ends w m actor d new state running after r shows lt is same shown waits left =
     shows_set w m actor state (record { hand = held_by state.reserved; running = None }) new shows lt same
     (record { hand = refl; running = subst (λ (o : Option Running). ShowsRunning state.reserved o None) (sym left) tt })
 
@@ -139,17 +141,17 @@ steps_on w m actor d new state running answer shows lt is same by =
     let after = done.is.after in
     let s = shared_of new in
     let h = held_by state.reserved in
-    let made : machine_step.turn m.numbers.block actor granted m.shared (actor_at m actor).hand r ≡ turn_of done.result s h after =
+    let made : machine_step.turn m.numbers.block actor granted m.shared (actor_at m actor).hand r ≡ turn_of done.result done.after.answer s h after =
     ap (λ g. machine_step.turn g.block actor granted m.shared (actor_at m actor).hand r) (sym shows.numbers)
     ∙ ap (λ (x : machine.Shared). machine_step.turn w.shared.geometry.numbers.block actor granted x (actor_at m actor).hand r)
     (sym shows.shared)
     ∙ ap (λ (x : machine.HandState). machine_step.turn w.shared.geometry.numbers.block actor granted (shared_of w.shared) x r)
     (sym own.hand)
     ∙ done.is.is in
-    let all : step m (machine.Go actor granted) ≡ turned (turn_of done.result s h after) actor m =
+    let all : step m (machine.Go actor granted) ≡ turned (turn_of done.result done.after.answer s h after) actor m =
     go_is m actor granted r (omega (arith, lt, shows.count)) call.1 ∙ ap (λ (t : machine.Turn). turned t actor m) made in (
       granted,
-      ap told_by done.reply_is ∙ told_turned done.result s h after actor m
+      ap told_by done.reply_is ∙ told_turned done.result done.after.answer s h after actor m
           ∙ ap (λ (x : machine_step.Step). Replied x.reply) (sym all),
       subst (λ (x : machine_step.Step). Shows (world_with new actor state w) x.world) (sym all)
           (shows_turned done.result w m actor d new state running done.after after shows lt is same done.is.shows done.waits done.still_is),

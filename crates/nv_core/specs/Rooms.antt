@@ -352,5 +352,5 @@ HasActorRooms shared reserved (Some running) = HasRooms shared reserved running
 -- what holds of an actor after a turn: of a call that goes on its rooms, and else of the hand
 -- alone
 abbrev pub HasRoomsAfter : Turn → Shared → Reservation → Running → Type 0
-HasRoomsAfter (turn.Ends result) shared reserved running = IsIdle shared reserved
+HasRoomsAfter turn.Ends shared reserved running = IsIdle shared reserved
 HasRoomsAfter other shared reserved running = HasRooms shared reserved running

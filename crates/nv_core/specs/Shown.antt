@@ -2,7 +2,8 @@
 pub use Rattle.nv_calls.specs.SlotList.{slots_in}
 pub use Rattle.nv_steps.specs.Hands.{hand_of, hand_with}
 pub use Rattle.nv_steps.specs.Planning.{manner_of}
-use Rattle.std.specs.Prelude.{ℕ, List, [], drop, map, take}
+use Rattle.std.specs.Prelude.{ℕ, List, Result, [], drop, map, take}
+use Rattle.nv_base.specs.declared.fault.Fault.{Fault}
 use Rattle.nv_base.specs.declared.numbers.Handle.{Handle}
 use Rattle.nv_calls.specs.declared.answer.Answer.{Answer}
 use Rattle.nv_calls.specs.declared.answer.Answer.TheVariants as answers
@@ -196,8 +197,8 @@ answered (owed.Nothing name) made = answers.Nothing
 
 -- ---- turns
 
--- a turn, with what is shared, the hand and the call after it
-abbrev pub turn_of : Turn → machine.Shared → machine.HandState → machine.Running → machine.Turn
-turn_of turn.Moves s h r = machine.Moves s h r
-turn_of turn.Waits s h r = machine.Waits
-turn_of (turn.Ends result) s h r = machine.Ends result s h
+-- a turn, with what its call is answered, what is shared, the hand and the call after it
+abbrev pub turn_of : Turn → Result Answer Fault → machine.Shared → machine.HandState → machine.Running → machine.Turn
+turn_of turn.Moves result s h r = machine.Moves s h r
+turn_of turn.Waits result s h r = machine.Waits
+turn_of turn.Ends result s h r = machine.Ends result s h

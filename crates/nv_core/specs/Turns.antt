@@ -1,5 +1,7 @@
 -- The step of an actor's call, over what actors share and what is its own.
-use Rattle.std.specs.Prelude.{◌≡◌, ℕ, Bool, Option, Some, None, Ok, Err}
+use Rattle.std.specs.Prelude.{◌≡◌, ℕ, Bool, Option, Some, None, Result, Ok, Err}
+use Rattle.nv_base.specs.declared.fault.Fault.{Fault}
+use Rattle.nv_calls.specs.declared.answer.Answer.{Answer}
 use Rattle.nv_machine.specs.Locks.{held_at}
 use Rattle.nv_machine.specs.Step as machine_step
 use Rattle.nv_machine.specs.World as machine
@@ -18,7 +20,7 @@ use Rattle.nv_core.specs.declared.turn.Turn.TheVariants as turn
 
 -- the call after a turn shows that of the machine, unless it has ended
 abbrev pub ShowsAfter : Turn → Reservation → Running → machine.Running → Type 0
-ShowsAfter (turn.Ends result) reserved running r = Unit {0}
+ShowsAfter turn.Ends reserved running r = Unit {0}
 ShowsAfter other reserved running r = ShowsCall reserved running r
 
 -- the turn of a call is the machine's
@@ -31,7 +33,7 @@ pub record IsTurn (actor : ℕ) (old : Shared) (before : Reservation) (r : machi
   pub after : machine.Running
   -- the machine's turn on what the old parts show is this one, with what the new parts show
   pub is : machine_step.turn old.geometry.numbers.block actor granted (shared_of old) (held_by before) r
-      ≡ turn_of result (shared_of new) (held_by reserved) after
+      ≡ turn_of result running.answer (shared_of new) (held_by reserved) after
   -- the call that goes on shows the machine's
   pub shows : ShowsAfter result reserved running after
 
@@ -43,15 +45,15 @@ LeavesOthers actor r old new = LeavesRest actor (held_at r.next r.slots) old new
 
 -- the call that still runs after a turn
 abbrev pub still : Turn → Running → Option Running
-still (turn.Ends result) running = None
+still turn.Ends running = None
 still other running = Some running
 
--- the reply that a turn makes
-abbrev pub replied : Turn → Reply
-replied turn.Moves = reply.Moved
-replied turn.Waits = reply.Waits
-replied (turn.Ends (Ok answer)) = reply.Done answer
-replied (turn.Ends (Err fault)) = reply.Refused fault
+-- the reply that a turn makes, of a call that is answered so
+abbrev pub replied : Turn → Result Answer Fault → Reply
+replied turn.Moves result = reply.Moved
+replied turn.Waits result = reply.Waits
+replied turn.Ends (Ok answer) = reply.Done answer
+replied turn.Ends (Err fault) = reply.Refused fault
 
 -- an actor's call has gone on by one turn
 pub record HasTurned (actor : ℕ) (old : Shared) (before : Reservation) (running : Running) (r : machine.Running) (answer : Reply) (new : Shared)
@@ -67,7 +69,7 @@ pub record HasTurned (actor : ℕ) (old : Shared) (before : Reservation) (runnin
   -- the actor has the call that goes on, or none where the turn was the last
   pub still_is : state.running ≡ still result after
   -- the reply is the turn's
-  pub reply_is : answer ≡ replied result
+  pub reply_is : answer ≡ replied result after.answer
 
 -- what an actor is given for its next step, if it has a call
 abbrev pub CanGo : Shared → Reservation → Option Running → ℕ → Type 0

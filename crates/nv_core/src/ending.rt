@@ -58,7 +58,7 @@ pub(crate) fn give_back(shared: &Shared, hand: &Hand, running: &mut Running) -> 
     ensures turn { (told : ShownCall) → OwesAt running.old.ending running.old told
         → let s = shared_of shared.now in let h = hand_of hand.now in
         rest_turn (home_from 0 0 s.lists (blocks_in h)) h.ino s h (shown told running.old)
-        ≡ turn_of result s h (shown told running.new) }
+        ≡ turn_of result running.new.answer s h (shown told running.new) }
     ensures request { KeepsRequest running.old running.new }
     ensures slots { IsNoDrain running.old.ending → running.new.slots ≡ running.old.slots }
     ensures goes { result ≢ Turn.Waits }
@@ -72,7 +72,7 @@ pub(crate) fn give_left(left: LeftInHand, running: &mut Running) -> Turn
     ensures turn { (told : ShownCall) (s : machine.Shared) (h : machine.HandState)
         → OwesAt running.old.ending running.old told → HasNumber left h.ino
         → rest_turn (home_left left) h.ino s h (shown told running.old)
-        ≡ turn_of result s h (shown told running.new) }
+        ≡ turn_of result running.new.answer s h (shown told running.new) }
     ensures request { KeepsRequest running.old running.new }
     ensures slots { IsNoDrain running.old.ending → running.new.slots ≡ running.old.slots }
     ensures goes { result ≢ Turn.Waits }
@@ -98,7 +98,7 @@ pub(crate) fn last(running: &mut Running) -> Turn
     ensures turn { (told : ShownCall) (s : machine.Shared) (h : machine.HandState)
         → OwesAt running.old.ending running.old told
         → last_turn (ending_of running.old.ending) s h (shown told running.old)
-        ≡ turn_of result s h (shown told running.new) }
+        ≡ turn_of result running.new.answer s h (shown told running.new) }
     ensures request { KeepsRequest running.old running.new }
     ensures slots { IsNoDrain running.old.ending → running.new.slots ≡ running.old.slots }
     ensures goes { result ≢ Turn.Waits }
@@ -109,7 +109,8 @@ pub(crate) fn last(running: &mut Running) -> Turn
     match running.ending {
         Ending::Drains(draining) => drained(draining, running),
         Ending::Answers | Ending::Refuses(_) | Ending::BoundAnew | Ending::Cleans(_) => {
-            Turn::Ends(result_of(running))
+            running.answer = result_of(running);
+            Turn::Ends
         }
     }
 }
@@ -120,7 +121,7 @@ fn drained(draining: Draining, running: &mut Running) -> Turn
     // A drain is answered how many records it has released.
     ensures turn { (told : ShownCall) (s : machine.Shared) (h : machine.HandState)
         → drained_turn draining.left draining.released s h (shown told running.old)
-        ≡ turn_of result s h (shown told running.new) }
+        ≡ turn_of result running.new.answer s h (shown told running.new) }
     ensures request { KeepsRequest running.old running.new }
     ensures goes { result ≢ Turn.Waits }
     ensures rooms { (s : Shared) (hand : Hand) → IsHandOf s.geometry.numbers hand
@@ -128,7 +129,8 @@ fn drained(draining: Draining, running: &mut Running) -> Turn
         → HasRoomsAfter result s (Reservation.Hand hand) running.new }
 {
     if draining.left == 0 {
-        return Turn::Ends(Ok(Answer::Count(draining.released)));
+        running.answer = Ok(Answer::Count(draining.released));
+        return Turn::Ends;
     }
     let next = Draining {
         released: draining.released,
@@ -151,7 +153,7 @@ pub(crate) fn end_unlocked(shared: &Shared, hand: &Hand, running: &mut Running) 
     ensures turn { (told : ShownCall) → OwesAt running.old.ending running.old told
         → let s = shared_of shared.now in let h = hand_of hand.now in
         over_turn (ending_of running.old.ending) s h (shown told running.old)
-        ≡ turn_of result s h (shown told running.new) }
+        ≡ turn_of result running.new.answer s h (shown told running.new) }
     ensures request { KeepsRequest running.old running.new }
     ensures slots { IsNoDrain running.old.ending → running.new.slots ≡ running.old.slots }
     ensures goes { result ≢ Turn.Waits }
@@ -172,7 +174,7 @@ fn again(running: &mut Running) -> Turn
     // A call is contended after the eighth such check, and not before.
     ensures turn { (told : ShownCall) (s : machine.Shared) (h : machine.HandState)
         → again_turn running.old.rounds s h (shown told running.old)
-        ≡ turn_of result s h (shown told running.new) }
+        ≡ turn_of result running.new.answer s h (shown told running.new) }
     ensures request { KeepsRequest running.old running.new }
     ensures slots { IsNoDrain running.old.ending → running.new.slots ≡ running.old.slots }
     ensures goes { result ≢ Turn.Waits }
@@ -180,7 +182,8 @@ fn again(running: &mut Running) -> Turn
         → IsHandOf s.geometry.numbers h → HasRoomsAfter result s (Reservation.Hand h) running.new }
 {
     if running.rounds == 0 {
-        return Turn::Ends(Err(Fault::Contended));
+        running.answer = Err(Fault::Contended);
+        return Turn::Ends;
     }
     running.rounds -= 1;
     running.ending = Ending::Answers;
@@ -198,7 +201,7 @@ pub(crate) fn end(shared: &Shared, hand: &Hand, running: &mut Running, ending: E
     ensures turn { (told : ShownCall) → OwesAt ending running.old told
         → let s = shared_of shared.now in let h = hand_of hand.now in
         end_turn (slots_in running.old.slots) (ending_of ending) s h (shown told running.old)
-        ≡ turn_of result s h (shown told running.new) }
+        ≡ turn_of result running.new.answer s h (shown told running.new) }
     ensures request { KeepsRequest running.old running.new }
     ensures slots { IsNoDrain ending → running.new.slots ≡ running.old.slots }
     ensures goes { result ≢ Turn.Waits }
@@ -234,7 +237,8 @@ pub(crate) fn refuse(shared: &Shared, hand: &Hand, running: &mut Running, fault:
     requires sized { IsHandOf shared.now.geometry.numbers hand.now }
     // A refused call gives up its locks.
     ensures turn { (told : ShownCall) → let s = shared_of shared.now in let h = hand_of hand.now in
-        refuse fault s h (shown told running.old) ≡ turn_of result s h (shown told running.new) }
+        refuse fault s h (shown told running.old)
+        ≡ turn_of result running.new.answer s h (shown told running.new) }
     ensures request { KeepsRequest running.old running.new }
     ensures slots { running.new.slots ≡ running.old.slots }
     ensures goes { result ≢ Turn.Waits }

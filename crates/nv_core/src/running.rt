@@ -15,9 +15,9 @@ use crate::reservation::Reservation;
 use crate::shared::Shared;
 use crate::turn::Turn;
 use nv_alloc::Hand;
-use nv_base::{Gen, Handle, Ino, limits};
+use nv_base::{Fault, Gen, Handle, Ino, limits};
 use nv_calls::{
-    Call, LockedSlots, LookupResult, SnapshotOrCleanerCall, Update, look_count, slots_of,
+    Answer, Call, LockedSlots, LookupResult, SnapshotOrCleanerCall, Update, look_count, slots_of,
 };
 use nv_steps::Manner;
 use std::alloc::Global;
@@ -43,6 +43,8 @@ pub(crate) struct Running {
     pub(crate) made: Handle,
     /// How many blocks of a taking it still wants.
     pub(crate) wanted: u64,
+    /// What it is answered, once its last step is made.
+    pub(crate) answer: Result<Answer, Fault>,
 }
 
 /// The step for a place in the loop of locks, or what comes behind the last.
@@ -206,6 +208,7 @@ impl Running {
             slots,
             made,
             wanted: 0,
+            answer: Ok(Answer::Nothing),
         }
     }
 

@@ -41,8 +41,9 @@ use crate::world::{Actor, World};
 use crate::{Event, Reply};
 use nv_alloc::Hand;
 use nv_base::Fault;
-use nv_calls::{Call, Commit, CommitStep};
+use nv_calls::{Answer, Call, Commit, CommitStep};
 use std::alloc::{AllocError, Global};
+use std::mem;
 
 impl World {
     /// One event. A `Go` makes one step of the actor's call. A `Stop` is the end of all calls, and takes memory: a `Start`
@@ -117,9 +118,20 @@ impl World {
         // It never replies that the machine stopped.
         ensures replied { told_by result ≡ Replied (reply_of result) }
     {
+        self.go_on(actor, 0)
+    }
+
+    /// One step of an actor's call. A reply that says that the call moved stays where it did, so that a step which moves
+    /// hands no reply on.
+    pub(crate) fn step_once(&mut self, actor: u64, reply: &mut Reply)
+        requires { reply.old ≡ Reply.Moved }
+        ensures step { (m : machine.World) → Shows self.old m
+            → IsStep m (Event.Go actor) reply.new self.new }
+        ensures replied { told_by reply.new ≡ Replied (reply_of reply.new) }
+    {
         match self.actors.get_mut(actor as usize) {
-            Some(state) => make_step(self.alloc, &mut self.shared, state, actor),
-            None => Reply::Refused(Fault::NoActor),
+            Some(state) => make_step(self.alloc, &mut self.shared, state, actor, reply),
+            None => *reply = Reply::Refused(Fault::NoActor),
         }
     }
 }
@@ -150,28 +162,30 @@ fn begin(alloc: Global, shared: &Shared, state: &mut Actor, call: Call) -> Reply
 }
 
 /// The call of an actor goes on by one step.
-fn make_step(alloc: Global, shared: &mut Shared, state: &mut Actor, actor: u64) -> Reply
+fn make_step(alloc: Global, shared: &mut Shared, state: &mut Actor, actor: u64, reply: &mut Reply)
+    requires moved { reply.old ≡ Reply.Moved }
     requires can { CanGo shared.old state.old.reserved state.old.running actor }
     requires rooms { HasActorRooms shared.old state.old.reserved state.old.running }
-    ensures idle { state.old.running ≡ None → (result ≡ Reply.Refused ActorIdle)
+    ensures idle { state.old.running ≡ None → (reply.new ≡ Reply.Refused ActorIdle)
         × (shared.new ≡ shared.old) × (state.new ≡ state.old) }
     ensures turns { (running : Running) (r : machine.Running) → state.old.running ≡ Some running
         → ShowsCall state.old.reserved running r
-        → HasTurned actor shared.old state.old.reserved running r result shared.new state.new }
+        → HasTurned actor shared.old state.old.reserved running r reply.new shared.new state.new }
     ensures rooms { HasActorRooms shared.new state.new.reserved state.new.running }
     ensures rest { (running : Running) (r : machine.Running) → state.old.running ≡ Some running
         → ShowsCall state.old.reserved running r → LeavesOthers actor r shared.old shared.new }
 {
     let Actor { reserved, running } = state;
     let Some(call) = running else {
-        return Reply::Refused(Fault::ActorIdle);
+        *reply = Reply::Refused(Fault::ActorIdle);
+        return;
     };
     match turn(alloc, shared, reserved, call, actor) {
-        Turn::Moves => Reply::Moved,
-        Turn::Waits => Reply::Waits,
-        Turn::Ends(told) => {
+        Turn::Moves => {}
+        Turn::Waits => *reply = Reply::Waits,
+        Turn::Ends => {
+            *reply = ended(mem::replace(&mut call.answer, Ok(Answer::Nothing)));
             forget(running);
-            ended(told)
         }
     }
 }

@@ -62,11 +62,13 @@ impl World {
         // It never answers that the machine stopped.
         ensures replied { told_by result ≡ Replied (reply_of result) }
     {
+        let mut reply = Reply::Moved;
         let mut left = more;
         loop {
-            match self.go(actor) {
+            self.step_once(actor, &mut reply);
+            match reply {
                 Reply::Moved => {}
-                reply => return reply,
+                _ => return reply,
             }
             if left == 0 {
                 return Reply::Moved;

@@ -52,7 +52,8 @@ pub(crate) fn check(shared: &mut Shared, hand: &mut Hand, running: &mut Running)
         IsEither (λ granted. check_turn (ending_at block s h r) granted
         (blocks_wanted block (copies s) (has_last_page block s r.call) r.call) block s h
         (with_made s h r))
-        (turn_of result (shared_of shared.new) (hand_of hand.new) (shown told running.new)) }
+        (turn_of result running.new.answer (shared_of shared.new) (hand_of hand.new)
+        (shown told running.new)) }
     ensures request { KeepsRequest running.old running.new }
     ensures goes { result ≢ Turn.Waits }
     ensures rest { shared.new ≡ shared.old }
@@ -195,7 +196,7 @@ fn want_blocks(shared: &mut Shared, hand: &Hand, running: &mut Running, wanted: 
     ensures turn { (told : ShownCall) → IsShownCallOf running.old told
         → let s = shared_of shared.old in let h = hand_of hand.now in
         wants_blocks wanted shared.old.geometry.numbers.block s h (shown told running.old)
-        ≡ turn_of result s h (shown told running.new) }
+        ≡ turn_of result running.new.answer s h (shown told running.new) }
     ensures request { KeepsRequest running.old running.new }
     ensures goes { result ≢ Turn.Waits }
     ensures same { shared.new ≡ shared.old }

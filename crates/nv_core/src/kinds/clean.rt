@@ -37,7 +37,7 @@ pub(crate) fn lock_cleaned(
     ensures turn { (told : ShownCall) (h : HandState) → let s = shared_of shared.old in
         lock_cleaned_turn (owner_at s log.ino) actor (manner_of log.manner) log.ino s h
         (shown told running.old)
-        ≡ turn_of result (shared_of shared.new) h (shown told running.new) }
+        ≡ turn_of result running.new.answer (shared_of shared.new) h (shown told running.new) }
     ensures waits { result ≡ Turn.Waits → (shared.new ≡ shared.old) × (running.new ≡ running.old) }
     ensures request { KeepsRequest running.old running.new }
     ensures rooms { (hand : Hand) → HasRooms shared.old (Reservation.Hand hand) running.old
@@ -63,7 +63,8 @@ pub(crate) fn clean(shared: &mut Shared, hand: &mut Hand, running: &mut Running,
     ensures turn { (told : ShownCall) (granted : Bool) → kind_turn (next_of running.old.next)
         shared.old.geometry.numbers.block actor granted (shared_of shared.old) (hand_of hand.old)
         (shown told running.old)
-        ≡ turn_of result (shared_of shared.new) (hand_of hand.new) (shown told running.new) }
+        ≡ turn_of result running.new.answer (shared_of shared.new) (hand_of hand.new)
+        (shown told running.new) }
     // No step of a cleaner waits behind its lock.
     ensures goes { result ≢ Turn.Waits }
     ensures request { KeepsRequest running.old running.new }

@@ -39,7 +39,8 @@ pub(crate) fn compact(
     // No old log page goes home at this step.
     ensures turn { (told : ShownCall) → compact_turn plan.ino (shared_of shared.old) (hand_of hand.old)
         (shown told running.old)
-        ≡ turn_of result (shared_of shared.new) (hand_of hand.new) (shown told running.new) }
+        ≡ turn_of result running.new.answer (shared_of shared.new) (hand_of hand.new)
+        (shown told running.new) }
     ensures request { KeepsRequest running.old running.new }
     ensures goes { result ≢ Turn.Waits }
     ensures rooms { HasRoomsAfter result shared.new (Reservation.Hand hand.new) running.new }

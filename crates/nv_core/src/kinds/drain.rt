@@ -35,7 +35,8 @@ pub(crate) fn pick(
     ensures turn { (told : ShownCall) → let s = shared_of shared.old in
         IsEither (λ granted. pick_turn (draining_of draining) granted s empty_hand
         (shown told running.old))
-        (turn_of result (shared_of shared.new) empty_hand (shown told running.new)) }
+        (turn_of result running.new.answer (shared_of shared.new) empty_hand
+        (shown told running.new)) }
     ensures empty { hand_of hand.new ≡ empty_hand }
     ensures request { KeepsRequest running.old running.new }
     ensures goes { result ≢ Turn.Waits }
@@ -50,7 +51,10 @@ pub(crate) fn pick(
             ));
             Turn::Moves
         }
-        Picked::Ends(told) => Turn::Ends(told),
+        Picked::Ends(answer) => {
+            running.answer = answer;
+            Turn::Ends
+        }
     }
 }
 
@@ -69,7 +73,7 @@ pub(crate) fn lock_picked(
     ensures turn { (told : ShownCall) (h : HandState) → let s = shared_of shared.old in
         lock_picked_turn (owner_at s picked.ino) actor (draining_of draining) picked s h
         (shown told running.old)
-        ≡ turn_of result (shared_of shared.new) h (shown told running.new) }
+        ≡ turn_of result running.new.answer (shared_of shared.new) h (shown told running.new) }
     ensures waits { result ≡ Turn.Waits → (shared.new ≡ shared.old) × (running.new ≡ running.old) }
     ensures request { KeepsRequest running.old running.new }
     ensures rooms { (hand : Hand) → HasRooms shared.old (Reservation.Hand hand) running.old

@@ -37,7 +37,7 @@ pub(crate) fn enter(
         → let s = shared_of shared.old in let after = shown_in reserved.new s.book told in
         IsEither (λ granted. enter_turn s.holder (nat_le NUMBER s.book.commit) granted actor s
         (held_by reserved.old) (shown_by reserved.old told running.old))
-        (turn_of result (shared_of shared.new) (held_by reserved.new)
+        (turn_of result running.new.answer (shared_of shared.new) (held_by reserved.new)
         (shown_by reserved.new after running.new)) }
     ensures told { (told : ShownCall)
         → IsReservationOf (slots_in running.old.slots) reserved.old told

@@ -43,7 +43,8 @@ pub(crate) fn take_fresh(
     ensures turn { (told : ShownCall) → let s = shared_of shared.old in
         take_fresh_turn (asked_list (length s.lists) actor fresh.asked) fresh.plan.ino fresh.asked
         fresh.left s (hand_of hand.old) (shown told running.old)
-        ≡ turn_of result (shared_of shared.new) (hand_of hand.new) (shown told running.new) }
+        ≡ turn_of result running.new.answer (shared_of shared.new) (hand_of hand.new)
+        (shown told running.new) }
     ensures request { KeepsRequest running.old running.new }
     ensures goes { result ≢ Turn.Waits }
     ensures rooms { HasRoomsAfter result shared.new (Reservation.Hand hand.new) running.new }

@@ -36,7 +36,8 @@ pub(crate) fn give(shared: &mut Shared, hand: &mut Hand, running: &mut Running, 
         + times n (numbers_of (list_at (shared_of shared.old) cpu).blocks) ≤ 1 }
     ensures turn { (told : ShownCall) → OwesAt running.old.ending running.old told
         → give_turn cpu (shared_of shared.old) (hand_of hand.old) (shown told running.old)
-        ≡ turn_of result (shared_of shared.new) (hand_of hand.new) (shown told running.new) }
+        ≡ turn_of result running.new.answer (shared_of shared.new) (hand_of hand.new)
+        (shown told running.new) }
     ensures request { KeepsRequest running.old running.new }
     ensures goes { result ≢ Turn.Waits }
     ensures rooms { HasRoomsAfter result shared.new (Reservation.Hand hand.new) running.new }

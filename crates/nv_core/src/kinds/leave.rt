@@ -28,8 +28,8 @@ pub(crate) fn leave(shared: &mut Shared, reserved: &mut Reservation, running: &m
     ensures turn { (told : ShownCall) → OwesAt running.old.ending running.old told
         → leave_turn (shared_of shared.old) (held_by reserved.old)
         (shown_at machine.Leave told running.old)
-        ≡ turn_of result (shared_of shared.new) (hand_of (hand_held reserved.old))
-        (shown told running.new) }
+        ≡ turn_of result running.new.answer (shared_of shared.new)
+        (hand_of (hand_held reserved.old)) (shown told running.new) }
     ensures left { reserved.new ≡ Reservation.Hand (hand_held reserved.old) }
     ensures request { KeepsRequest running.old running.new }
     ensures goes { result ≢ Turn.Waits }

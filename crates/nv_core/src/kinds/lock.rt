@@ -24,7 +24,7 @@ pub(crate) fn lock(shared: &mut Shared, running: &mut Running, actor: u64, place
     ensures turn { (told : ShownCall) (h : HandState) → let s = shared_of shared.old in
         lock_turn (owner_at s (slot_at (slots_in running.old.slots) place)) actor place s h
         (shown told running.old)
-        ≡ turn_of result (shared_of shared.new) h (shown told running.new) }
+        ≡ turn_of result running.new.answer (shared_of shared.new) h (shown told running.new) }
     ensures waits { result ≡ Turn.Waits → (shared.new ≡ shared.old) × (running.new ≡ running.old) }
     ensures request { KeepsRequest running.old running.new }
     ensures rooms { (hand : Hand) → HasRooms shared.old (Reservation.Hand hand) running.old

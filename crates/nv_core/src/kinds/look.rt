@@ -35,7 +35,7 @@ pub(crate) fn look(shared: &Shared, hand: &Hand, running: &mut Running, place: u
         (look_tests place (look_refusal (copies s) c))
         (seen_at (directories c) place (looked (copies s) c) running.old.looked) place s h
         (shown told running.old)
-        ≡ turn_of result s h (shown told running.new) }
+        ≡ turn_of result running.new.answer s h (shown told running.new) }
     ensures waits { result ≡ Turn.Waits → running.new ≡ running.old }
     ensures request { KeepsRequest running.old running.new }
     ensures rooms { HasRoomsAfter result shared.now (Reservation.Hand hand.now) running.new }
@@ -54,6 +54,9 @@ pub(crate) fn look(shared: &Shared, hand: &Hand, running: &mut Running, place: u
             running.next = next;
             Turn::Moves
         }
-        Err(fault) => Turn::Ends(Err(fault)),
+        Err(fault) => {
+            running.answer = Err(fault);
+            Turn::Ends
+        }
     }
 }

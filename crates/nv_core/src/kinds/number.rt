@@ -30,7 +30,8 @@ pub(crate) fn number(shared: &mut Shared, hand: &mut Hand, running: &mut Running
     requires none { hand.old.ino ≡ None }
     ensures turn { (told : ShownCall) → IsShownCallOf running.old told → let s = shared_of shared.old in
         number_turn s.pool.numbers s (hand_of hand.old) (shown told running.old)
-        ≡ turn_of result (shared_of shared.new) (hand_of hand.new) (shown told running.new) }
+        ≡ turn_of result running.new.answer (shared_of shared.new) (hand_of hand.new)
+        (shown told running.new) }
     ensures request { KeepsRequest running.old running.new }
     ensures goes { result ≢ Turn.Waits }
     ensures rooms { HasRoomsAfter result shared.new (Reservation.Hand hand.new) running.new }
@@ -47,7 +48,7 @@ fn goes_to_locks(inodes: u64, running: &mut Running, number: Option<Ino>) -> Tur
     ensures turn { (told : ShownCall) (s : machine.Shared) (h : machine.HandState)
         → IsShownCallOf running.old told → length s.cells ≡ inodes → let r = shown told running.old in
         moves_past machine.Number s h (record r { slots = slots_of s number r.looked r.call })
-        ≡ turn_of result s h (shown told running.new) }
+        ≡ turn_of result running.new.answer s h (shown told running.new) }
     ensures request { KeepsRequest running.old running.new }
     ensures fits { FitsCall running.new }
     ensures none { takes running.new.next ≡ false }

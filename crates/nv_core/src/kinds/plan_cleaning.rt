@@ -49,7 +49,7 @@ pub(crate) fn plan_cleaning(
     ensures turn { (told : ShownCall) → let s = shared_of shared.now in
         IsEither (λ granted. plan_cleaning_turn (manner_of manner) slot granted s (hand_of hand.old)
         (shown told running.old))
-        (turn_of result s (hand_of hand.new) (shown told running.new)) }
+        (turn_of result running.new.answer s (hand_of hand.new) (shown told running.new)) }
     ensures request { KeepsRequest running.old running.new }
     ensures goes { result ≢ Turn.Waits }
     ensures rooms { HasRoomsAfter result shared.now (Reservation.Hand hand.new) running.new }
@@ -84,7 +84,7 @@ fn plan_slot(
     ensures turn { (told : ShownCall) → let s = shared_of shared.now in
         IsEither (λ granted. inode_turn (has_inode (cell_at s ino)) (manner_of manner) ino granted
         s (hand_of hand.old) (shown told running.old))
-        (turn_of result s (hand_of hand.new) (shown told running.new)) }
+        (turn_of result running.new.answer s (hand_of hand.new) (shown told running.new)) }
     ensures request { KeepsRequest running.old running.new }
     ensures goes { result ≢ Turn.Waits }
     ensures rooms { HasRoomsAfter result shared.now (Reservation.Hand hand.new) running.new }

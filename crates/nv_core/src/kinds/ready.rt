@@ -44,7 +44,8 @@ pub(crate) fn ready(
     ensures turn { (told : ShownCall) → IsShownCallOf running.old told
         → IsEither (λ granted. ready_turn granted shared.old.geometry.numbers.block
         (shared_of shared.old) (held_by reserved.old) (shown told running.old))
-        (turn_of result (shared_of shared.new) (held_by reserved.new) (shown_by reserved.new
+        (turn_of result running.new.answer (shared_of shared.new) (held_by reserved.new)
+        (shown_by reserved.new
         (planned_by reserved.new shared.old (hand_held reserved.old) running.old told)
         running.new)) }
     ensures told { (told : ShownCall) → IsShownCallOf running.old told → IsShownCallOf running.new told }

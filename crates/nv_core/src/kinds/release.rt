@@ -42,7 +42,8 @@ pub(crate) fn release(
     // A release is counted.
     ensures turn { (told : ShownCall) → release_turn (draining_of draining) picked (shared_of shared.old)
         empty_hand (shown told running.old)
-        ≡ turn_of result (shared_of shared.new) (hand_of hand.new) (shown told running.new) }
+        ≡ turn_of result running.new.answer (shared_of shared.new) (hand_of hand.new)
+        (shown told running.new) }
     ensures request { KeepsRequest running.old running.new }
     ensures goes { result ≢ Turn.Waits }
     ensures rooms { HasRoomsAfter result shared.new (Reservation.Hand hand.new) running.new }

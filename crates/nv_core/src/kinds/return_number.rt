@@ -31,7 +31,8 @@ pub(crate) fn return_number(shared: &mut Shared, hand: &mut Hand, running: &mut 
     ensures turn { (told : ShownCall) → OwesAt running.old.ending running.old told
         → let h = hand_of hand.old in
         return_number_turn h.ino (shared_of shared.old) h (shown told running.old)
-        ≡ turn_of result (shared_of shared.new) (hand_of hand.new) (shown told running.new) }
+        ≡ turn_of result running.new.answer (shared_of shared.new) (hand_of hand.new)
+        (shown told running.new) }
     ensures request { KeepsRequest running.old running.new }
     ensures goes { result ≢ Turn.Waits }
     ensures rooms { HasRoomsAfter result shared.new (Reservation.Hand hand.new) running.new }

@@ -38,7 +38,8 @@ pub(crate) fn pin(alloc: Global, shared: &mut Shared, running: &mut Running, sna
     // A show pins its snapshot first.
     ensures turn { (told : ShownCall) → let s = shared_of shared.old in
         pin_turn snapshot (pins_of s.book.snaps snapshot) s empty_hand (shown told running.old)
-        ≡ turn_of result (shared_of shared.new) empty_hand (shown told running.new) }
+        ≡ turn_of result running.new.answer (shared_of shared.new) empty_hand
+        (shown told running.new) }
     ensures request { KeepsRequest running.old running.new }
     ensures goes { result ≢ Turn.Waits }
     ensures rooms { (hand : Hand) → HasRooms shared.old (Reservation.Hand hand) running.old
@@ -51,7 +52,10 @@ pub(crate) fn pin(alloc: Global, shared: &mut Shared, running: &mut Running, sna
             running.next = Next::SnapshotOrCleaner(showing_on(snapshot, showing));
             Turn::Moves
         }
-        Err(fault) => Turn::Ends(Err(fault)),
+        Err(fault) => {
+            running.answer = Err(fault);
+            Turn::Ends
+        }
     }
 }
 
@@ -80,7 +84,7 @@ pub(crate) fn show(alloc: Global, shared: &Shared, running: &mut Running) -> Tur
         let snapshot = snapshot_in running.old.next in let to = showing_in running.old.next in
         IsEither (λ granted. show_turn (owner_at s (visited to.visits).ino) granted
         (copies_at s snapshot (visited to.visits)) snapshot to s h (shown told running.old))
-        (turn_of result s h (shown told running.new)) }
+        (turn_of result running.new.answer s h (shown told running.new)) }
     // A show waits where the inode that it visits is locked.
     ensures waits { result ≡ Turn.Waits → running.new ≡ running.old }
     ensures request { KeepsRequest running.old running.new }
@@ -138,7 +142,7 @@ pub(crate) fn unpin(shared: &mut Shared, running: &mut Running) -> Turn
     // A show is answered the nodes that it has seen.
     ensures turn { (told : ShownCall) (h : HandState) → unpin_turn (snapshot_in running.old.next)
         (seen_in running.old.next) (shared_of shared.old) h (shown told running.old)
-        ≡ turn_of result (shared_of shared.new) h (shown told running.new) }
+        ≡ turn_of result running.new.answer (shared_of shared.new) h (shown told running.new) }
     ensures ends { (result ≢ Turn.Moves) × (result ≢ Turn.Waits) }
     ensures request { KeepsRequest running.old running.new }
     ensures rest { shared.new ≡ record shared.old { book = shared.new.book } }
@@ -150,7 +154,8 @@ pub(crate) fn unpin(shared: &mut Shared, running: &mut Running) -> Turn
         unreachable!()
     };
     let shown = shown_at_end(&running.ending, seen);
-    Turn::Ends(nv_steps::unpin(&mut shared.book, Epoch::new(snapshot), shown))
+    running.answer = nv_steps::unpin(&mut shared.book, Epoch::new(snapshot), shown);
+    Turn::Ends
 }
 
 /// What a show is answered: what it has seen, or for what it is refused.

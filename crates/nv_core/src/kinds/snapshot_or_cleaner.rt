@@ -38,7 +38,8 @@ pub(crate) fn maintain(
     ensures turn { (told : ShownCall) → IsEither (λ granted. kind_turn (next_of running.old.next)
         shared.old.geometry.numbers.block actor granted (shared_of shared.old) (hand_of hand.old)
         (shown told running.old))
-        (turn_of result (shared_of shared.new) (hand_of hand.new) (shown told running.new)) }
+        (turn_of result running.new.answer (shared_of shared.new) (hand_of hand.new)
+        (shown told running.new)) }
     ensures waits { result ≡ Turn.Waits
         → (shared.new ≡ shared.old) × (hand.new ≡ hand.old) × (running.new ≡ running.old) }
     ensures request { KeepsRequest running.old running.new }
@@ -85,7 +86,8 @@ fn on_book(
     ensures turn { (told : ShownCall) → IsEither (λ granted. kind_turn (next_of running.old.next)
         shared.old.geometry.numbers.block actor granted (shared_of shared.old) (hand_of hand.old)
         (shown told running.old))
-        (turn_of result (shared_of shared.new) (hand_of hand.new) (shown told running.new)) }
+        (turn_of result running.new.answer (shared_of shared.new) (hand_of hand.new)
+        (shown told running.new)) }
     ensures waits { result ≡ Turn.Waits
         → (shared.new ≡ shared.old) × (hand.new ≡ hand.old) × (running.new ≡ running.old) }
     ensures request { KeepsRequest running.old running.new }
@@ -97,10 +99,14 @@ fn on_book(
         return Turn::Waits;
     }
     match running.next {
-        Next::SnapshotOrCleaner(SnapshotOrCleanerStep::Make) => make_snapshot(shared),
-        Next::SnapshotOrCleaner(SnapshotOrCleanerStep::Drop(snapshot)) => drop_snapshot(
-            shared, snapshot,
-        ),
+        Next::SnapshotOrCleaner(SnapshotOrCleanerStep::Make) => {
+            running.answer = make_snapshot(shared);
+            Turn::Ends
+        }
+        Next::SnapshotOrCleaner(SnapshotOrCleanerStep::Drop(snapshot)) => {
+            running.answer = drop_snapshot(shared, snapshot);
+            Turn::Ends
+        }
         Next::SnapshotOrCleaner(SnapshotOrCleanerStep::Pin(snapshot)) => pin(
             alloc, shared, running, snapshot,
         ),

@@ -38,7 +38,7 @@ pub(crate) fn want_pages(shared: &mut Shared, hand: &Hand, running: &mut Running
     ensures turn { (told : ShownCall) → IsShownCallOf running.old told → let s = shared_of shared.old in
         let h = hand_of hand.now in let r = shown told running.old in
         wants_pages (pages_wanted s r.slots (plan_by shared.old.geometry.numbers.block s h r)) s h r
-        ≡ turn_of result s h (shown told running.new) }
+        ≡ turn_of result running.new.answer s h (shown told running.new) }
     ensures request { KeepsRequest running.old running.new }
     ensures goes { result ≡ Turn.Moves }
     ensures rooms { HasRoomsAfter result shared.new (Reservation.Hand hand.now) running.new }
@@ -85,7 +85,8 @@ pub(crate) fn take_blocks(
     ensures turn { (told : ShownCall) → IsShownCallOf running.old told → let s = shared_of shared.old in
         take_blocks_turn (asked_list (length s.lists) actor asked) asked
         shared.old.geometry.numbers.block s (hand_of hand.old) (shown told running.old)
-        ≡ turn_of result (shared_of shared.new) (hand_of hand.new) (shown told running.new) }
+        ≡ turn_of result running.new.answer (shared_of shared.new) (hand_of hand.new)
+        (shown told running.new) }
     ensures request { KeepsRequest running.old running.new }
     ensures goes { result ≢ Turn.Waits }
     ensures rooms { HasRoomsAfter result shared.new (Reservation.Hand hand.new) running.new }
@@ -121,7 +122,8 @@ pub(crate) fn take_log_pages(
     ensures turn { (told : ShownCall) → let s = shared_of shared.old in
         take_log_pages_turn (asked_list (length s.lists) actor asked) asked s (hand_of hand.old)
         (shown told running.old)
-        ≡ turn_of result (shared_of shared.new) (hand_of hand.new) (shown told running.new) }
+        ≡ turn_of result running.new.answer (shared_of shared.new) (hand_of hand.new)
+        (shown told running.new) }
     ensures request { KeepsRequest running.old running.new }
     ensures goes { result ≢ Turn.Waits }
     ensures rooms { HasRoomsAfter result shared.new (Reservation.Hand hand.new) running.new }

@@ -29,7 +29,7 @@ pub(crate) fn unlock(shared: &mut Shared, hand: &Hand, running: &mut Running, pl
     ensures turn { (told : ShownCall) → OwesAt running.old.ending running.old told
         → let h = hand_of hand.now in
         unlock_turn place (shared_of shared.old) h (shown told running.old)
-        ≡ turn_of result (shared_of shared.new) h (shown told running.new) }
+        ≡ turn_of result running.new.answer (shared_of shared.new) h (shown told running.new) }
     ensures request { KeepsRequest running.old running.new }
     ensures goes { result ≢ Turn.Waits }
     ensures rooms { HasRoomsAfter result shared.new (Reservation.Hand hand.now) running.new }

@@ -40,7 +40,7 @@ pub(crate) fn visit(shared: &Shared, running: &mut Running) -> Turn
         IsEither (λ granted. visit_turn (owner_at s (handle_at (handles nothing_looked c) 0).ino)
         (refusal block (copies s) c) (granted || not (visit_grows c)) (answer (nodes s) r.made c)
         s empty_hand r)
-        (turn_of result s empty_hand (shown told running.new)) }
+        (turn_of result running.new.answer s empty_hand (shown told running.new)) }
     ensures ends { result ≢ Turn.Moves }
     ensures waits { result ≡ Turn.Waits → running.new ≡ running.old }
     ensures rooms { (hand : Hand) → HasRooms shared.now (Reservation.Hand hand) running.old
@@ -56,7 +56,8 @@ pub(crate) fn visit(shared: &Shared, running: &mut Running) -> Turn
     let Request::Visit(call) = mem::replace(&mut running.request, Request::Taken) else {
         unreachable!()
     };
-    Turn::Ends(found(shared, ino, call))
+    running.answer = found(shared, ino, call);
+    Turn::Ends
 }
 
 /// What a call finds in the cell of its inode, if there is one.

@@ -65,7 +65,7 @@ returns-in-Visit-clause-turn c r shows =
     (λ told is. visit_any (hand_of c.args.hand.now) empty_hand
     (λ granted h. machine_step.kind_turn machine.Visit c.args.shared.now.geometry.numbers.block c.args.actor granted
     (shared_of c.args.shared.now) h (shown told c.args.running.now))
-    c.visit.result (shared_of c.args.shared.now) (shown told c.visit.new.running)
+    c.visit.result c.visit.new.running.answer (shared_of c.args.shared.now) (shown told c.visit.new.running)
     (subst (λ (n : Next). Given n c.args.shared.now c.args.hand.now c.args.running.now) c.in-Visit.is c.requires.can.own).2
     (c.visit.ensures.turn told is))
 

@@ -78,5 +78,6 @@ returns-clause-turn c told is =
     c.make_room.new.shared (hand_of c.make_room.new.hand) c.in-Ok.wanted _
     (c.make_room.ensures.same ∙ c.test.ensures.same) (ap hand_of c.make_room.ensures.hand) refl c.in-Ok.ensures.wanted
     (c.want_blocks.ensures.turn told (subst (λ (x : Running). IsShownCallOf x told) (sym c.note_made.ensures) is))
-    ∙ ap (λ (x : Shared). turn_of c.want_blocks.result (shared_of x) (hand_of c.make_room.new.hand) (shown told c.want_blocks.new.running))
+    ∙ ap (λ (x : Shared). turn_of c.want_blocks.result c.want_blocks.new.running.answer (shared_of x)
+    (hand_of c.make_room.new.hand) (shown told c.want_blocks.new.running))
     (sym c.want_blocks.ensures.same))

@@ -39,10 +39,10 @@ returns-in-Ends-clause-turn c told =
     let new = c.pick.new.book.state in
     let h = hand_of c.args.hand.now in
     let after = hand_of c.pick.new.hand in
-    let granted = was_granted (picked.Ends c.in-Ends.told) in
+    let granted = was_granted (picked.Ends c.in-Ends.answer) in
     let before : IsBefore (machine.Pick d) r = record { next = ap next_of c.requires.next; slots = c.requires.slots } in
     let kept : after ≡ empty_hand = ap (λ (x : Hand). hand_of x) c.in-Ends.ensures.hand ∙ c.requires.empty in
-    either (λ granted. pick_turn d granted s empty_hand r) granted (machine.Ends c.in-Ends.told (with_book new s) empty_hand)
-    (pick_ends s.book new s r refl d granted h after c.requires.empty before c.in-Ends.told
+    either (λ granted. pick_turn d granted s empty_hand r) granted (machine.Ends c.in-Ends.answer (with_book new s) empty_hand)
+    (pick_ends s.book new s r refl d granted h after c.requires.empty before c.in-Ends.answer
     (c.in-Ends.ensures.turn (numbers_of 0) 0 d.left r before)
-    ∙ ap (λ (x : HandState). machine.Ends c.in-Ends.told (with_book new s) x) kept)
+    ∙ ap (λ (x : HandState). machine.Ends c.in-Ends.answer (with_book new s) x) kept)

@@ -25,10 +25,10 @@ returns-clause-turn c told owes =
     let hand : hand_with (killed_in commit) commit.hand ≡ hand_of c.in-Hand.hand =
     ap (λ (parts : List (List KilledPart)). hand_with parts commit.hand) (all_retired commit all) ∙ ap hand_of (sym left) in
     subst (λ (h : Reservation). leave_turn (shared_of c.args.shared.now) (held_by h) (shown_at machine.Leave told running)
-    ≡ turn_of c.end.result s (hand_of (hand_held h)) (shown told c.end.new.running)) (sym at)
+    ≡ turn_of c.end.result c.end.new.running.answer s (hand_of (hand_held h)) (shown told c.end.new.running)) (sym at)
     (ap (λ (h : machine.HandState). end_turn (slots_in running.slots)
     (ending_of running.ending) s h (shown_at machine.Leave told running)) hand
     ∙ end_anywhere (slots_in running.slots) (ending_of running.ending) s (hand_of c.in-Hand.hand)
     (shown told running) machine.Leave
     ∙ c.end.ensures.turn told owes
-    ∙ ap (λ (h : Hand). turn_of c.end.result s (hand_of h) (shown told c.end.new.running)) left)
+    ∙ ap (λ (h : Hand). turn_of c.end.result c.end.new.running.answer s (hand_of h) (shown told c.end.new.running)) left)

@@ -29,7 +29,7 @@ returns-in-All-clause-turn c told is =
     c.requires.home c.requires.wide c.take_next.ensures.rest c.take_next.ensures.taken r (ap next_of c.requires.next)
     (c.in-All.ensures.turn DataBlocks (numbers_for shared) (hand_of hand) r (sym c.requires.home.count) (before_blocks told running c.args.asked c.requires.next))
     ∙ c.want_pages.ensures.turn told is
-    ∙ ap (λ (u : Shared). turn_of c.want_pages.result (shared_of u) h (shown told c.want_pages.new.running)) (sym c.want_pages.ensures.shared)
+    ∙ ap (λ (u : Shared). turn_of c.want_pages.result c.want_pages.new.running.answer (shared_of u) h (shown told c.want_pages.new.running)) (sym c.want_pages.ensures.shared)
 
 pub returns-in-Lacks-clause-turn : goal.returns-in-Lacks-clause-turn
 returns-in-Lacks-clause-turn c told is =
