@@ -68,6 +68,7 @@ pub(crate) fn give_back(shared: &Shared, hand: &Hand, running: &mut Running) -> 
 }
 
 /// What is left in the hand goes back: blocks, and then a number. Where nothing is, the step replies.
+#[inline(always)]
 pub(crate) fn give_left(left: LeftInHand, running: &mut Running) -> Turn
     ensures turn { (told : ShownCall) (s : machine.Shared) (h : machine.HandState)
         → OwesAt running.old.ending running.old told → HasNumber left h.ino
@@ -94,6 +95,7 @@ pub(crate) fn give_left(left: LeftInHand, running: &mut Running) -> Turn
 }
 
 /// Nothing is locked, and nothing in the hand: the step replies, or a drain goes on.
+#[inline(always)]
 pub(crate) fn last(running: &mut Running) -> Turn
     ensures turn { (told : ShownCall) (s : machine.Shared) (h : machine.HandState)
         → OwesAt running.old.ending running.old told
@@ -143,6 +145,7 @@ fn drained(draining: Draining, running: &mut Running) -> Turn
 }
 
 /// Nothing is locked: the next round of looks comes, if there is one, or what is in the hand goes back.
+#[inline(always)]
 pub(crate) fn end_unlocked(shared: &Shared, hand: &Hand, running: &mut Running) -> Turn
     requires home { AreHome shared.now }
     requires device { IsOfDevice shared.now.geometry.numbers hand.now }
@@ -216,6 +219,7 @@ pub(crate) fn end(shared: &Shared, hand: &Hand, running: &mut Running, ending: E
 }
 
 /// A call that holds something turns to its last steps: it unlocks next.
+#[inline(always)]
 pub(crate) fn unlock_first(running: &mut Running, ending: Ending)
     ensures ends { (told : ShownCall) → shown told running.new
         ≡ once_ending (ending_of ending) (shown told running.old) }

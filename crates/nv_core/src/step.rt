@@ -236,6 +236,7 @@ fn turn(
 }
 
 /// A step of a call whose hand is with the actor alone.
+#[inline(always)]
 fn hand_step(
     alloc: Global,
     shared: &mut Shared,
@@ -273,6 +274,7 @@ fn hand_step(
 }
 
 /// A step that passes the hand on: it is made ready, it enters, or it leaves.
+#[inline(always)]
 fn handover_step(
     alloc: Global,
     shared: &mut Shared,

@@ -27,6 +27,7 @@ use nv_base::Fault;
 use nv_steps::Taken;
 
 /// The call wants log pages. A taking of nothing has no step.
+#[inline(always)]
 pub(crate) fn want_pages(shared: &mut Shared, hand: &Hand, running: &mut Running) -> Turn
     requires limits { IsWithinLimits shared.old.geometry.numbers }
     requires home { AreHome shared.old }
