@@ -4,6 +4,8 @@ pub mod CleanerRuns
 pub mod CleaningTurns
 pub mod Closes
 mod Draining
+mod ExclusiveCrossing
+mod ExclusiveWalks
 mod FirstHomes
 mod Found
 pub mod Giving
@@ -16,6 +18,7 @@ pub mod Moves
 mod NamedItems
 pub mod NotOlder
 mod Nothing
+mod Noting
 mod OtherRefusals
 pub mod PartBlocks
 mod Pool

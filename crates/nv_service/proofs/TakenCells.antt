@@ -2,7 +2,7 @@
 use Rattle.std.proofs.Common.{◌≡◌, ◌≢◌, ◌∙◌, inl, inr, ◌++◌, ◌∷◌, ℕ, ◌+◌, ◌<◌, ◌≤◌, ◌-◌, List, [], Option, Some, None, ap, arith, length, map, refl, slice_index, subst, sym, take}
 use Rattle.std.specs.Prelude.{Err, IfErr, IfOk, Ok, OnErr, OnOk, Result, false, slice_index_or}
 use Rattle.std.specs.List.{AllByRecursion, AllPairs}
-use Rattle.std.specs.declared.sync.MutexGuard.{MutexGuard}
+use Rattle.core.specs.declared.rw.RwLockWriteGuard.{RwLockWriteGuard}
 use Rattle.std.proofs.lemmas.List.{ext_get_or, get_or-map, get_or-take, get_or_append_left, get_or_push, length-map, length-take, length_push, map-append}
 use Rattle.std.proofs.lemmas.Bool.{cases_eq}
 use Rattle.std.proofs.lemmas.List.Sums.{sum_by_push}
@@ -24,7 +24,7 @@ use Rattle.nv_service.specs.declared.cell_list.TakenCell.{TakenCell}
 use Rattle.nv_service.specs.declared.change.ChangeEnd.{ChangeEnd}
 use Rattle.nv_service.proofs.Turning.{joined_last}
 use Rattle.std.specs.Option.{option_map}
-use Rattle.std.specs.Sync.Mutex.{mutex_guard_value}
+use Rattle.std.specs.Sync.RwLock.{write_guard_value}
 
 -- ---- the cells as a change sees them
 
@@ -65,19 +65,19 @@ taken_last front t items is =
 abbrev pub told : TakenCell → Option LockedValue
 told t = Some (empty_place t)
 
-pub places_more : (guards more : List (Option (MutexGuard LockedValue))) (guard : MutexGuard LockedValue) (items now : List TakenCell)
+pub places_more : (guards more : List (Option (RwLockWriteGuard LockedValue))) (guard : RwLockWriteGuard LockedValue) (items now : List TakenCell)
     (t : TakenCell) → ArePlaces guards items → more ≡ guards ++ Some guard ∷ [] → now ≡ items ++ t ∷ []
-    → mutex_guard_value guard ≡ empty_place t → ArePlaces more now
+    → write_guard_value guard ≡ empty_place t → ArePlaces more now
 places_more guards more guard items now t are by to is =
-    joined_last (option_map mutex_guard_value) told guards more (Some guard) items now t are by to (ap Some is)
+    joined_last (option_map write_guard_value) told guards more (Some guard) items now t are by to (ap Some is)
 
 -- the last of the guards is that of the place of the last cell
-pub record LastGuard (guards : List (Option (MutexGuard LockedValue))) (front : List TakenCell) (t : TakenCell) : Type 0 where
-  pub before : List (Option (MutexGuard LockedValue))
-  pub guard : MutexGuard LockedValue
+pub record LastGuard (guards : List (Option (RwLockWriteGuard LockedValue))) (front : List TakenCell) (t : TakenCell) : Type 0 where
+  pub before : List (Option (RwLockWriteGuard LockedValue))
+  pub guard : RwLockWriteGuard LockedValue
   pub is : guards ≡ before ++ Some guard ∷ []
   pub places : ArePlaces before front
-  pub place : mutex_guard_value guard ≡ empty_place t
+  pub place : write_guard_value guard ≡ empty_place t
 
 no_more : {A : Type 0} (x : A) (xs : List A) → [] ≡ x ∷ xs → ⊥
 no_more x xs is = cc
@@ -85,37 +85,37 @@ no_more x xs is = cc
 none_not : {A : Type 0} (x : A) → None ≡ Some x → ⊥
 none_not x is = cc
 
-alone : (guard : Option (MutexGuard LockedValue)) (guards : List (Option (MutexGuard LockedValue))) (t : TakenCell)
-    → option_map mutex_guard_value guard ≡ told t → map (option_map mutex_guard_value) guards ≡ [] → LastGuard (guard ∷ guards) [] t
+alone : (guard : Option (RwLockWriteGuard LockedValue)) (guards : List (Option (RwLockWriteGuard LockedValue))) (t : TakenCell)
+    → option_map write_guard_value guard ≡ told t → map (option_map write_guard_value) guards ≡ [] → LastGuard (guard ∷ guards) [] t
 alone None guards t head tail = absurd (none_not (empty_place t) head)
 alone (Some guard) [] t head tail =
-    let place : mutex_guard_value guard ≡ empty_place t = cc in
+    let place : write_guard_value guard ≡ empty_place t = cc in
     record { before = []; guard = guard; is = refl; places = refl; place = place }
 alone (Some guard) (g ∷ guards) t head tail =
-    absurd (no_more (option_map mutex_guard_value g) (map (option_map mutex_guard_value) guards) (sym tail))
+    absurd (no_more (option_map write_guard_value g) (map (option_map write_guard_value) guards) (sym tail))
 
-one_more : (guard : Option (MutexGuard LockedValue)) (guards : List (Option (MutexGuard LockedValue))) (x : TakenCell) (front : List TakenCell)
-    (t : TakenCell) → option_map mutex_guard_value guard ≡ told x → LastGuard guards front t → LastGuard (guard ∷ guards) (x ∷ front) t
+one_more : (guard : Option (RwLockWriteGuard LockedValue)) (guards : List (Option (RwLockWriteGuard LockedValue))) (x : TakenCell) (front : List TakenCell)
+    (t : TakenCell) → option_map write_guard_value guard ≡ told x → LastGuard guards front t → LastGuard (guard ∷ guards) (x ∷ front) t
 one_more guard guards x front t head rest = record {
   before = guard ∷ rest.before;
   guard = rest.guard;
-  is = ap (λ (l : List (Option (MutexGuard LockedValue))). guard ∷ l) rest.is;
+  is = ap (λ (l : List (Option (RwLockWriteGuard LockedValue))). guard ∷ l) rest.is;
   places = ap (λ (o : Option LockedValue). o ∷ places_of rest.before) head
       ∙ ap (λ (l : List (Option LockedValue)). told x ∷ l) rest.places;
   place = rest.place;
 }
 
-pub last_guard : (guards : List (Option (MutexGuard LockedValue))) (front : List TakenCell) (t : TakenCell)
-    → map (option_map mutex_guard_value) guards ≡ map told (front ++ t ∷ []) → LastGuard guards front t
+pub last_guard : (guards : List (Option (RwLockWriteGuard LockedValue))) (front : List TakenCell) (t : TakenCell)
+    → map (option_map write_guard_value) guards ≡ map told (front ++ t ∷ []) → LastGuard guards front t
 last_guard [] [] t is = absurd (no_more (told t) [] is)
 last_guard [] (x ∷ front) t is = absurd (no_more (told x) (map told (front ++ t ∷ [])) is)
 last_guard (g ∷ guards) [] t is =
-    let head : option_map mutex_guard_value g ≡ told t = cc in
-    let tail : map (option_map mutex_guard_value) guards ≡ [] = cc in
+    let head : option_map write_guard_value g ≡ told t = cc in
+    let tail : map (option_map write_guard_value) guards ≡ [] = cc in
     alone g guards t head tail
 last_guard (g ∷ guards) (x ∷ front) t is =
-    let head : option_map mutex_guard_value g ≡ told x = cc in
-    let tail : map (option_map mutex_guard_value) guards ≡ map told (front ++ t ∷ []) = cc in
+    let head : option_map write_guard_value g ≡ told x = cc in
+    let tail : map (option_map write_guard_value) guards ≡ map told (front ++ t ∷ []) = cc in
     one_more g guards x front t head (last_guard guards front t tail)
 
 -- who had seen no more than the version of a place has seen no less once it is at a later one
@@ -134,10 +134,10 @@ seen_no_less opened old new ino place before version later here elsewhere met ri
 ]
 
 -- as many guards as cells
-pub places_count : (guards : List (Option (MutexGuard LockedValue))) (items : List TakenCell) → ArePlaces guards items
+pub places_count : (guards : List (Option (RwLockWriteGuard LockedValue))) (items : List TakenCell) → ArePlaces guards items
     → length guards ≡ length items
 places_count guards items are =
-    sym (length-map guards (option_map mutex_guard_value)) ∙ ap (λ (l : List (Option LockedValue)). length l) are ∙ length-map items told
+    sym (length-map guards (option_map write_guard_value)) ∙ ap (λ (l : List (Option LockedValue)). length l) are ∙ length-map items told
 
 -- ---- by rising number
 
@@ -254,7 +254,7 @@ inos_same old new raised =
       )
 
 -- the guards are still those of their places
-pub places_kept : (guards : List (Option (MutexGuard LockedValue))) (old new : List TakenCell) → ArePlaces guards old
+pub places_kept : (guards : List (Option (RwLockWriteGuard LockedValue))) (old new : List TakenCell) → ArePlaces guards old
     → MayBeRaised (pairs old) (pairs new) → versions_of new ≡ versions_of old → ArePlaces guards new
 places_kept guards old new are raised versions =
     are ∙ sym (told_same new old (inos_same old new raised) versions)

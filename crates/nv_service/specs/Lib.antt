@@ -1,4 +1,5 @@
 pub mod Asking
+mod Beside
 pub mod ByValue
 pub mod Changing
 pub mod Cleaning
@@ -22,8 +23,10 @@ pub mod UnlockedParts
 pub mod Rounds
 pub mod RunCalls
 pub mod Seats
+pub mod SeenVersions
 pub mod SessionRuns
 pub mod Sessions
 pub mod ShowRuns
 pub mod Snapped
 pub mod Taken
+pub mod ViewGuards

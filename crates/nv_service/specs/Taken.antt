@@ -1,8 +1,8 @@
 -- Cells that are out of their places.
 use Rattle.std.specs.Prelude.{◌≡◌, ℕ, ◌+◌, ◌≤◌, List, [], map, Option, Some, None, slice_index, slice_index_or, vec_capacity}
 use Rattle.std.specs.Option.{option_map}
-use Rattle.std.specs.Sync.Mutex.{mutex_guard_value}
-use Rattle.std.specs.declared.sync.MutexGuard.{MutexGuard}
+use Rattle.std.specs.Sync.RwLock.{write_guard_value}
+use Rattle.core.specs.declared.rw.RwLockWriteGuard.{RwLockWriteGuard}
 use Rattle.nv_calls.specs.Cells.{no_cell}
 use Rattle.nv_cell.specs.Cell.{CellValue, IsCell}
 use Rattle.nv_service.specs.Locked.{LockedValue, version_at}
@@ -46,11 +46,11 @@ abbrev pub empty_place : TakenCell → LockedValue
 empty_place taken = record { ino = taken.ino; version = taken.before; cell = None }
 
 -- the values of guards
-abbrev pub places_of : List (Option (MutexGuard LockedValue)) → List (Option LockedValue)
-places_of guards = map (option_map mutex_guard_value) guards
+abbrev pub places_of : List (Option (RwLockWriteGuard LockedValue)) → List (Option LockedValue)
+places_of guards = map (option_map write_guard_value) guards
 
 -- EACH GUARD IS THAT OF THE PLACE of the cell that stands where it stands
-abbrev pub ArePlaces : List (Option (MutexGuard LockedValue)) → List TakenCell → Type 0
+abbrev pub ArePlaces : List (Option (RwLockWriteGuard LockedValue)) → List TakenCell → Type 0
 ArePlaces guards items = places_of guards ≡ map (λ (t : TakenCell). Some (empty_place t)) items
 
 -- ---- versions

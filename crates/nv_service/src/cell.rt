@@ -4,8 +4,11 @@ ghost use Rattle.std.specs.Prelude.{◌≡◌, ◌≢◌, ◌+◌, ◌<◌, ◌�
 ghost use Rattle.nv_cell.specs.Cell.{IsCell, block_total};
 ghost use Rattle.nv_service.specs.Locked.{IsThere, cell_of, version_at, with_cell, without_cell};
 
+use crate::beside::Beside;
+use crate::exclusive::Exclusive;
 use crate::names::{Blocks, Commits};
-use crate::passes::{Fresh, Notes, Owner};
+use crate::passes::Fresh;
+use crate::seen_versions::SeenVersions;
 use nv_base::Ino;
 use nv_cell::InodeCell;
 use std::marker::Model;
@@ -13,32 +16,33 @@ use std::mem;
 use std::sync::Wait;
 use std::sync::ledger::Share;
 
-/// The place of a cell: the number of its inode, the cell unless a call has it, the share of its blocks, and the pass that
-/// owns the inode at a version. It owns blocks, so it is no `Drop`.
+/// The place of a cell: the number of its inode, its version, the cell unless a call has it, and what lies beside it. Readers
+/// share a place: nobody reaches what lies beside the cell except with the place to himself. It owns blocks, so it is no
+/// `Drop`.
 /// No older cell can be put behind a lock.
 pub struct LockedCell<C: Commits, B: Blocks> {
     pub(crate) ino: Ino,
     pub(crate) version: u64,
     pub(crate) cell: Option<InodeCell>,
-    pub(crate) blocks: Share<B>,
-    pub(crate) owner: Owner<C>,
+    pub(crate) beside: Option<Exclusive<Beside<C, B>>>,
 }
 
 impl<C: Commits, B: Blocks> Model for LockedCell<C, B> {
     ghost use Rattle.std.specs.Prelude.{◌≡◌};
+    ghost use Rattle.nv_service.specs.Beside.{beside_of};
     ghost use Rattle.nv_service.specs.Locked.{IsAt, LockedValue, blocks_there, version_at};
 
     ghost Value = { LockedValue };
 
     ghost view = { λ l. record { ino = l.ino; version = l.version; cell = l.cell } };
 
-    // Its share has one part and as many blocks as the cell, none where the cell is out.
-    // Its pass owns the inode whose number lies beside the cell, at the version of the place.
+    // The share of its blocks has one part and as many blocks as the cell, none where the cell is out.
+    // The pass owns the inode whose number lies beside the cell, at the version of the place.
     // A cell that is there has that version.
-    ghost invariant = { λ l. (l.blocks.parts ≡ 1)
-        × (l.blocks.amount ≡ blocks_there l.cell)
-        × (l.owner.ino ≡ l.ino)
-        × (l.version ≡ version_at C.opened l.ino l.owner.version)
+    ghost invariant = { λ l. ((beside_of l.beside).parts ≡ 1)
+        × ((beside_of l.beside).blocks ≡ blocks_there l.cell)
+        × ((beside_of l.beside).owner.ino ≡ l.ino)
+        × (l.version ≡ version_at C.opened l.ino (beside_of l.beside).owner.version)
         × IsAt l.version l.cell };
 }
 
@@ -48,6 +52,13 @@ impl<C: Commits, B: Blocks> LockedCell<C, B> {
         ensures { result ≡ self.now.ino }
     {
         self.ino
+    }
+
+    /// The version.
+    pub(crate) fn version(&self) -> u64
+        ensures { result ≡ self.now.version }
+    {
+        self.version
     }
 
     /// The cell, if it is there. A call that has it keeps the guard, and no type says so of a lock.
@@ -83,17 +94,24 @@ impl<C: Commits, B: Blocks> LockedCell<C, B> {
     }
 
     /// Compares notes with the place: they have no higher version of its inode than it has.
-    pub(crate) fn check_seen<R: Wait>(&mut self, rt: &R, fresh: &Fresh<C>, seen: &mut Notes<C>)
+    pub(crate) fn check_seen<R: Wait>(
+        &mut self,
+        rt: &R,
+        fresh: &Fresh<C>,
+        seen: &mut SeenVersions<C>,
+    )
         ensures place { self.new ≡ self.old }
         ensures seen { seen.new ≡ seen.old }
         ensures met { version_at C.opened self.old.ino (slice_index seen.old self.old.ino)
             ≤ self.old.version }
     {
-        self.owner.check_seen(rt, fresh, seen);
+        let mut beside = Beside::taken(&mut self.beside);
+        seen.check(rt, fresh, &mut beside.owner);
+        self.beside = beside.hidden();
     }
 
     /// Notes the version of the place, and nothing else new. The notes have no higher one, which `check_seen` tells.
-    pub(crate) fn note_seen(&mut self, fresh: &Fresh<C>, seen: &mut Notes<C>)
+    pub(crate) fn note_seen(&mut self, fresh: &Fresh<C>, seen: &mut SeenVersions<C>)
         requires { version_at C.opened self.old.ino (slice_index seen.old self.old.ino)
             ≤ self.old.version }
         ensures place { self.new ≡ self.old }
@@ -102,7 +120,9 @@ impl<C: Commits, B: Blocks> LockedCell<C, B> {
         ensures elsewhere { (i : ℕ) → i ≢ self.old.ino
             → slice_index seen.new i ≡ slice_index seen.old i }
     {
-        self.owner.note_seen(fresh, seen);
+        let mut beside = Beside::taken(&mut self.beside);
+        seen.note(fresh, &mut beside.owner, self.ino, self.version);
+        self.beside = beside.hidden();
     }
 
     /// Takes the cell out, with the share of its blocks. The place is empty then.
@@ -121,7 +141,9 @@ impl<C: Commits, B: Blocks> LockedCell<C, B> {
             None => unreachable!(),
             Some(cell) => {
                 cell.holds_together();
-                self.blocks.transfer(mine, cell.blocks());
+                let mut beside = Beside::taken(&mut self.beside);
+                beside.blocks.transfer(mine, cell.blocks());
+                self.beside = beside.hidden();
                 cell
             }
         }
@@ -134,7 +156,9 @@ impl<C: Commits, B: Blocks> LockedCell<C, B> {
         // A pass rises by one, and only while the cell is out.
         ensures { self.new ≡ record self.old { version = version } }
     {
-        self.owner.raise(rt, fresh);
+        let mut beside = Beside::taken(&mut self.beside);
+        beside.owner.raise(rt, fresh);
+        self.beside = beside.hidden();
         self.version = version;
     }
 
@@ -148,7 +172,9 @@ impl<C: Commits, B: Blocks> LockedCell<C, B> {
         ensures parts { mine.new.parts ≡ mine.old.parts }
         ensures amount { mine.new.amount + block_total cell.state ≡ mine.old.amount }
     {
-        mine.transfer(&mut self.blocks, cell.blocks());
+        let mut beside = Beside::taken(&mut self.beside);
+        mine.transfer(&mut beside.blocks, cell.blocks());
+        self.beside = beside.hidden();
         match mem::replace(&mut self.cell, Some(cell)) {
             None => {}
             Some(_other) => unreachable!(),
@@ -161,8 +187,7 @@ impl<C: Commits, B: Blocks> LockedCell<C, B> {
             ino: _,
             version: _,
             cell,
-            blocks: _,
-            owner: _,
+            beside: _,
         } = self;
         match cell {
             Some(cell) => cell.dismantle(),

@@ -5,7 +5,7 @@ ghost use Rattle.std.specs.Prelude.{◌≡◌, ◌+◌, ◌<◌, ◌≤◌, [], 
 use crate::cell::LockedCell;
 use crate::names::{Blocks, Commits};
 use std::marker::Model;
-use std::sync::Mutex;
+use std::sync::RwLock;
 
 /// The slot that a cell was taken out of. Only taking it out gives one, and it is used up where the cell goes back.
 #[derive(Drop)]
@@ -24,12 +24,12 @@ impl Model for Slot {
 /// The locks of all cells, by slot. A cell goes in at the end alone: behind the lock of its own inode's slot, or behind
 /// that of the slot that it was taken out of.
 pub(crate) struct CellLocks<C: Commits, B: Blocks> {
-    locks: Vec<Mutex<LockedCell<C, B>>>,
+    locks: Vec<RwLock<LockedCell<C, B>>>,
 }
 
 impl<C: Commits, B: Blocks> CellLocks<C, B> {
     /// No locks, in room that was made before.
-    pub(crate) fn new(room: Vec<Mutex<LockedCell<C, B>>>) -> CellLocks<C, B>
+    pub(crate) fn new(room: Vec<RwLock<LockedCell<C, B>>>) -> CellLocks<C, B>
         requires { room.items ≡ [] }
         ensures none { vec_len result.locks ≡ 0 }
         ensures room { vec_capacity result.locks ≡ vec_capacity room }
@@ -45,7 +45,7 @@ impl<C: Commits, B: Blocks> CellLocks<C, B> {
     }
 
     /// The lock of a slot, where there is such a slot.
-    pub(crate) fn get(&self, slot: usize) -> Option<&Mutex<LockedCell<C, B>>>
+    pub(crate) fn get(&self, slot: usize) -> Option<&RwLock<LockedCell<C, B>>>
         ensures { MatchOption result (vec_len self.now.locks ≤ slot)
             (λ lock. slice_get self.now.locks.items slot ≡ Some lock.now) }
     {
@@ -59,7 +59,7 @@ impl<C: Commits, B: Blocks> CellLocks<C, B> {
         ensures count { vec_len self.new.locks ≡ vec_len self.old.locks + 1 }
         ensures room { vec_capacity self.new.locks ≡ vec_capacity self.old.locks }
     {
-        self.locks.push_reserved(Mutex::new(cell));
+        self.locks.push_reserved(RwLock::new(cell));
     }
 
     /// Puts a cell behind a lock again, that of the slot that it was taken out of.
@@ -70,7 +70,7 @@ impl<C: Commits, B: Blocks> CellLocks<C, B> {
         ensures room { vec_capacity self.new.locks ≡ vec_capacity self.old.locks }
     {
         let Slot { number: _ } = slot;
-        self.locks.push_reserved(Mutex::new(cell));
+        self.locks.push_reserved(RwLock::new(cell));
     }
 
     /// Takes the cell of the last slot out of its lock. The room stays.

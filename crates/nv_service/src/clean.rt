@@ -17,6 +17,7 @@ ghost use Rattle.nv_steps.specs.Hands.{hand_of};
 ghost use Rattle.nv_steps.specs.OnCell.{IsHolding, on_cell, once_ending};
 ghost use Rattle.nv_steps.specs.Turns.{IsMove};
 
+use crate::beside::Beside;
 use crate::cell::LockedCell;
 use crate::names::{Blocks, Commits};
 use nv_alloc::Hand;
@@ -95,7 +96,9 @@ impl<C: Commits, B: Blocks> LockedCell<C, B> {
         cell.holds_together();
         let before = hand.len();
         nv_steps::release(cell, hand, picked);
-        move_blocks(&mut self.blocks, mine, before, hand.len());
+        let mut beside = Beside::taken(&mut self.beside);
+        move_blocks(&mut beside.blocks, mine, before, hand.len());
+        self.beside = beside.hidden();
     }
 
     /// Unlinks the log pages that the planning found, as [`unlink`](nv_steps::unlink) does.
@@ -134,7 +137,9 @@ impl<C: Commits, B: Blocks> LockedCell<C, B> {
         cell.holds_together();
         let before = hand.len();
         let cleaned = nv_steps::unlink(cell, hand, walk);
-        move_blocks(&mut self.blocks, mine, before, hand.len());
+        let mut beside = Beside::taken(&mut self.beside);
+        move_blocks(&mut beside.blocks, mine, before, hand.len());
+        self.beside = beside.hidden();
         cleaned
     }
 
@@ -170,7 +175,9 @@ impl<C: Commits, B: Blocks> LockedCell<C, B> {
         cell.holds_together();
         let before = hand.len();
         let cleaned = nv_steps::compact(cell, hand, walk);
-        move_blocks(&mut self.blocks, mine, before, hand.len());
+        let mut beside = Beside::taken(&mut self.beside);
+        move_blocks(&mut beside.blocks, mine, before, hand.len());
+        self.beside = beside.hidden();
         cleaned
     }
 }

@@ -6,6 +6,7 @@ ghost use Rattle.nv_base.specs.Refusals.{FailsOnly};
 ghost use Rattle.nv_base.specs.declared.limits.TheConstants.{ACTORS};
 ghost use Rattle.nv_service.specs.Opened.{cell_blocks, list_blocks, versions_in};
 
+use crate::beside::Beside;
 use crate::cell::LockedCell;
 use crate::cell_locks::CellLocks;
 use crate::list::LockedList;
@@ -18,7 +19,7 @@ use nv_base::{Fault, Ino, limits};
 use nv_cell::InodeCell;
 use std::alloc::Global;
 use std::sync::ledger::Share;
-use std::sync::{Mutex, ledger};
+use std::sync::{Mutex, RwLock, ledger};
 
 /// Room for the locks of a service that is to be opened: of its cells, its lists and its seats.
 pub(crate) struct LockRoom<C: Commits, B: Blocks> {
@@ -39,7 +40,7 @@ impl<C: Commits, B: Blocks> LockRoom<C, B> {
         ensures err { FailsOnly out_of_memory result }
     {
         let seats = Vec::with_capacity(alloc, limits::ACTORS as usize)?;
-        let cells: Vec<Mutex<LockedCell<C, B>>> = Vec::with_capacity(alloc, cells as usize)?;
+        let cells: Vec<RwLock<LockedCell<C, B>>> = Vec::with_capacity(alloc, cells as usize)?;
         match Vec::with_capacity(alloc, lists as usize) {
             Ok(lists) => Ok(LockRoom {
                 cells: CellLocks::new(cells),
@@ -94,8 +95,7 @@ pub(crate) fn lock_first_cells<C: Commits, B: Blocks>(
             ino,
             version: cell.version(),
             cell: Some(cell),
-            blocks,
-            owner,
+            beside: Beside { blocks, owner }.hidden(),
         });
     }
     cells.destroy_empty();

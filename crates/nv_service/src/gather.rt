@@ -47,7 +47,7 @@ pub(crate) fn gather_sessions<C: Commits, B: Blocks>(
         commits.merge(made);
         snapped.merge(counted);
         blocks.merge(held);
-        notes.join(fresh, seen);
+        notes.join(fresh, seen.into_notes());
     }
 }
 

@@ -1,7 +1,7 @@
 //! The guards of the inodes that a call locks.
 
 ghost use Rattle.std.specs.Prelude.{◌≡◌, ◌+◌, ◌<◌, ◌≤◌, ◌-◌, ◌^◌, Err, IfErr, IfOk, OnErr, OnOk, length, vec_capacity, vec_len};
-ghost use Rattle.std.specs.Sync.Mutex.{mutex_guard_value};
+ghost use Rattle.std.specs.Sync.RwLock.{write_guard_value};
 ghost use Rattle.nv_alloc.specs.Hand.{blocks_of};
 ghost use Rattle.nv_base.specs.Refusals.{FailsEither, FailsOnly};
 ghost use Rattle.nv_base.specs.declared.fault.Fault.TheVariants as fault;
@@ -26,7 +26,7 @@ use crate::service::Service;
 use nv_alloc::Hand;
 use nv_base::{Fault, Ino, MismatchPart};
 use nv_calls::{LockedSlots, Receipt, Source};
-use std::sync::{Mutex, MutexGuard, Wait};
+use std::sync::{RwLock, RwLockWriteGuard, Wait};
 
 /// Locks the cell of an inode. `Stale` where the device has no such slot, and `Mismatch` of `Lists` where another inode's place
 /// lies there, or an empty one.
@@ -34,9 +34,9 @@ pub(crate) fn hold<'a, C: Commits, B: Blocks, R: Wait>(
     rt: &R,
     service: &'a Service<C, B>,
     ino: Ino,
-) -> Result<MutexGuard<'a, LockedCell<C, B>>, Fault>
-    ensures ok { IfOk result (λ guard. (mutex_guard_value guard).ino ≡ ino) }
-    ensures there { IfOk result (λ guard. IsThere (mutex_guard_value guard)) }
+) -> Result<RwLockWriteGuard<'a, LockedCell<C, B>>, Fault>
+    ensures ok { IfOk result (λ guard. (write_guard_value guard).ino ≡ ino) }
+    ensures there { IfOk result (λ guard. IsThere (write_guard_value guard)) }
     // The slot is one of the device's, and `Stale` comes only where it is none.
     ensures slot { OnOk result (ino < service.now.geometry.numbers.inodes) }
     ensures stale { IfErr result (λ why.
@@ -55,15 +55,15 @@ pub(crate) fn hold<'a, C: Commits, B: Blocks, R: Wait>(
 /// Locks a cell that is to be that of an inode. `Mismatch` of `Lists` where the place is another's, or empty.
 pub(crate) fn hold_at<'a, C: Commits, B: Blocks, R: Wait>(
     rt: &R,
-    lock: &'a Mutex<LockedCell<C, B>>,
+    lock: &'a RwLock<LockedCell<C, B>>,
     ino: Ino,
-) -> Result<MutexGuard<'a, LockedCell<C, B>>, Fault>
-    ensures ok { IfOk result (λ guard. (mutex_guard_value guard).ino ≡ ino) }
-    ensures there { IfOk result (λ guard. IsThere (mutex_guard_value guard)) }
+) -> Result<RwLockWriteGuard<'a, LockedCell<C, B>>, Fault>
+    ensures ok { IfOk result (λ guard. (write_guard_value guard).ino ≡ ino) }
+    ensures there { IfOk result (λ guard. IsThere (write_guard_value guard)) }
     ensures misplaced { OnErr result ((place : LockedValue) × IsMisplaced ino place) }
     ensures err { FailsOnly (fault.Mismatch part.Lists) result }
 {
-    let cell = lock.lock(rt);
+    let cell = lock.write(rt);
     if !cell.has_cell_of(ino) {
         return Err(Fault::Mismatch(MismatchPart::Lists));
     }

@@ -2,8 +2,8 @@
 
 ghost use Rattle.std.specs.Prelude.{◌≡◌, ◌≢◌, ◌+◌, ◌++◌, ◌∷◌, ◌<◌, ◌≤◌, ℕ, List, [], OnErr, OnOk, Option, length, slice_index, take, vec_capacity, vec_len};
 ghost use Rattle.std.specs.List.{AllByRecursion, AllPairs};
-ghost use Rattle.std.specs.Sync.Mutex.{mutex_guard_value};
-ghost use Rattle.std.specs.declared.sync.MutexGuard.{MutexGuard as Guard};
+ghost use Rattle.std.specs.Sync.RwLock.{write_guard_value};
+ghost use Rattle.core.specs.declared.rw.RwLockWriteGuard.{RwLockWriteGuard as Guard};
 ghost use Rattle.nv_base.specs.Refusals.{FailsEither};
 ghost use Rattle.nv_base.specs.declared.fault.Fault.TheVariants as fault;
 ghost use Rattle.nv_base.specs.declared.fault.MismatchPart.TheVariants as part;
@@ -17,18 +17,19 @@ use crate::cell::LockedCell;
 use crate::cell_list::{CellList, TakenCell};
 use crate::guards::hold;
 use crate::names::{Blocks, Commits};
-use crate::passes::{Fresh, Notes};
+use crate::passes::Fresh;
+use crate::seen_versions::SeenVersions;
 use crate::service::Service;
 use nv_base::{Fault, Ino};
 use smallvec::SmallVec;
 use std::alloc::Global;
 use std::sync::ledger::Share;
-use std::sync::{MutexGuard, Wait};
+use std::sync::{RwLockWriteGuard, Wait};
 
 /// The guards of places whose cells a call has: nobody gets their locks meanwhile.
 #[derive(Drop)]
 pub(crate) struct PlaceGuards<'a, C: Commits, B: Blocks> {
-    guards: SmallVec<Option<MutexGuard<'a, LockedCell<C, B>>>, 4>,
+    guards: SmallVec<Option<RwLockWriteGuard<'a, LockedCell<C, B>>>, 4>,
     // There is room for the guards of a call.
     ghost wide: { 4 ≤ guards.capacity },
 }
@@ -51,7 +52,7 @@ impl<'a, C: Commits, B: Blocks> PlaceGuards<'a, C, B> {
         &mut self,
         rt: &R,
         service: &'a Service<C, B>,
-        notes: &mut Notes<C>,
+        notes: &mut SeenVersions<C>,
         mine: &mut Share<B>,
         slots: &[Ino],
         list: &mut CellList,
@@ -88,7 +89,7 @@ impl<'a, C: Commits, B: Blocks> PlaceGuards<'a, C, B> {
         &mut self,
         rt: &R,
         service: &'a Service<C, B>,
-        notes: &mut Notes<C>,
+        notes: &mut SeenVersions<C>,
         mine: &mut Share<B>,
         ino: Ino,
         list: &mut CellList,
@@ -121,11 +122,11 @@ impl<'a, C: Commits, B: Blocks> PlaceGuards<'a, C, B> {
     /// Keeps a cell that is out of its place, with the guard of that.
     fn add(
         &mut self,
-        guard: MutexGuard<'a, LockedCell<C, B>>,
+        guard: RwLockWriteGuard<'a, LockedCell<C, B>>,
         taken: TakenCell,
         list: &mut CellList,
     )
-        requires place { mutex_guard_value guard ≡ empty_place taken }
+        requires place { write_guard_value guard ≡ empty_place taken }
         requires few { vec_len list.old.cells < 4 }
         requires room { 4 ≤ vec_capacity list.old.cells }
         requires places { ArePlaces self.old.guards.items list.old.cells.items }
@@ -138,7 +139,7 @@ impl<'a, C: Commits, B: Blocks> PlaceGuards<'a, C, B> {
     }
 
     /// The last guard, if there is one.
-    fn pop(&mut self) -> Option<MutexGuard<'a, LockedCell<C, B>>>
+    fn pop(&mut self) -> Option<RwLockWriteGuard<'a, LockedCell<C, B>>>
         ensures { (front : List (Option (Guard LockedValue))) (last : Option (Guard LockedValue))
             → self.old.guards.items ≡ front ++ last ∷ []
             → (self.new.guards.items ≡ front) × (result ≡ last) }
@@ -152,7 +153,7 @@ impl<'a, C: Commits, B: Blocks> PlaceGuards<'a, C, B> {
         &mut self,
         rt: &R,
         fresh: &Fresh<C>,
-        notes: &mut Notes<C>,
+        notes: &mut SeenVersions<C>,
         mine: &mut Share<B>,
         list: &mut CellList,
     )
@@ -193,14 +194,14 @@ impl<'a, C: Commits, B: Blocks> PlaceGuards<'a, C, B> {
 fn take_out<'a, C: Commits, B: Blocks, R: Wait>(
     rt: &R,
     fresh: &Fresh<C>,
-    notes: &mut Notes<C>,
+    notes: &mut SeenVersions<C>,
     mine: &mut Share<B>,
-    mut guard: MutexGuard<'a, LockedCell<C, B>>,
-) -> (MutexGuard<'a, LockedCell<C, B>>, TakenCell)
-    requires there { IsThere (mutex_guard_value guard) }
+    mut guard: RwLockWriteGuard<'a, LockedCell<C, B>>,
+) -> (RwLockWriteGuard<'a, LockedCell<C, B>>, TakenCell)
+    requires there { IsThere (write_guard_value guard) }
     requires part { 0 < mine.old.parts }
-    ensures place { mutex_guard_value result.0 ≡ empty_place result.1 }
-    ensures ino { result.1.ino ≡ (mutex_guard_value guard.entry).ino }
+    ensures place { write_guard_value result.0 ≡ empty_place result.1 }
+    ensures ino { result.1.ino ≡ (write_guard_value guard.entry).ino }
     ensures taken { IsTaken C.opened notes.old result.1 }
     ensures notes { notes.new ≡ notes.old }
     ensures parts { mine.new.parts ≡ mine.old.parts }
@@ -218,12 +219,12 @@ fn take_out<'a, C: Commits, B: Blocks, R: Wait>(
 fn put_back<C: Commits, B: Blocks, R: Wait>(
     rt: &R,
     fresh: &Fresh<C>,
-    notes: &mut Notes<C>,
+    notes: &mut SeenVersions<C>,
     mine: &mut Share<B>,
-    mut guard: MutexGuard<'_, LockedCell<C, B>>,
+    mut guard: RwLockWriteGuard<'_, LockedCell<C, B>>,
     taken: TakenCell,
 )
-    requires place { mutex_guard_value guard ≡ empty_place taken }
+    requires place { write_guard_value guard ≡ empty_place taken }
     requires back { GoesBack C.opened notes.old taken }
     requires part { 0 < mine.old.parts }
     requires enough { block_total taken.cell.state ≤ mine.old.amount }

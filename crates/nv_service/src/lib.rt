@@ -6,6 +6,7 @@
 #![tactic(auto)]
 
 mod asking;
+mod beside;
 mod book;
 mod callers;
 mod calls;
@@ -22,6 +23,7 @@ mod commit_lock;
 mod deferred_flag;
 mod drain;
 mod ending;
+mod exclusive;
 mod first_locks;
 mod fresh;
 mod fresh_pages;
@@ -41,6 +43,7 @@ mod rounds;
 mod seat;
 mod seats;
 mod seen;
+mod seen_versions;
 mod sends;
 mod service;
 mod serving;
@@ -49,6 +52,7 @@ mod snapshots;
 mod taking;
 mod unlocked;
 mod unlocked_parts;
+mod view_guards;
 mod visits;
 
 pub use book::LockedBook;

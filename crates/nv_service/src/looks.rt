@@ -5,9 +5,9 @@ ghost use Rattle.nv_calls.specs.Looks.{directories};
 ghost use Rattle.nv_calls.specs.Updates.{blank_call};
 ghost use Rattle.nv_service.specs.Refusing.{LooksFor, MayRefuseCheck};
 
-use crate::guards::hold_at;
 use crate::names::{Blocks, Commits};
 use crate::service::Service;
+use crate::view_guards::share_at;
 use nv_base::Fault;
 use nv_calls::{LookupResult, Update, directory, look_at, look_count};
 use std::sync::Wait;
@@ -50,6 +50,6 @@ fn look_name<C: Commits, B: Blocks, R: Wait>(
     let Some(lock) = service.inode_lock(ino) else {
         return look_at(ino, None, update, place, before);
     };
-    let cell = hold_at(rt, lock, ino)?;
+    let cell = share_at(rt, lock, ino)?;
     look_at(ino, Some(cell.part()), update, place, before)
 }

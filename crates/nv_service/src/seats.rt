@@ -17,6 +17,7 @@ use crate::giving_back::Giving;
 use crate::names::{Blocks, Commits, Cut, SnapLedger};
 use crate::passes::{Fresh, Maker, Notes};
 use crate::seat::Seat;
+use crate::seen_versions::SeenVersions;
 use crate::service::Service;
 use crate::session::Session;
 use nv_alloc::Hand;
@@ -88,7 +89,7 @@ impl<C: Commits, B: Blocks> FreeSeat<C, B> {
             number,
             commits,
             blocks,
-            notes,
+            notes: SeenVersions::new(notes),
             asking: Asking::new(),
             giving: Giving::new(),
         };

@@ -5,11 +5,12 @@ use crate::book::LockedBook;
 use crate::cell::LockedCell;
 use crate::list::LockedList;
 use crate::names::{Blocks, Commits, Ledgers};
-use crate::passes::{Fresh, Notes};
+use crate::passes::Fresh;
+use crate::seen_versions::SeenVersions;
 use nv_alloc::{FreeList, Hand, InodePool};
 use nv_book::Book;
 use nv_cell::InodeCell;
-use std::sync::Mutex;
+use std::sync::{Mutex, RwLock};
 
 fn is_send<T: Send>(_value: &T) {}
 
@@ -37,17 +38,17 @@ fn locked_parts_are_send<C: Commits + Send, B: Blocks>(
     cell: &LockedCell<C, B>,
     list: &LockedList<B>,
     book: &LockedBook<C>,
-    notes: &Notes<C>,
+    seen: &SeenVersions<C>,
 ) {
     is_send(cell);
     is_send(list);
     is_send(book);
-    is_send(notes);
+    is_send(seen);
 }
 
 /// Several threads may see the locks and the freshness cell.
 fn locks_are_sync<C: Commits + Send + Sync, B: Blocks>(
-    cell: &Mutex<LockedCell<C, B>>,
+    cell: &RwLock<LockedCell<C, B>>,
     list: &Mutex<LockedList<B>>,
     book: &Mutex<LockedBook<C>>,
     fresh: &Fresh<C>,

@@ -23,8 +23,8 @@ use nv_alloc::InodePool;
 use nv_base::{Geometry, Ino, Items, MismatchPart};
 use nv_core::Parts;
 use std::alloc::Global;
-use std::sync::Mutex;
 use std::sync::ledger::Total;
+use std::sync::{Mutex, RwLock};
 
 /// The parts of a world behind locks: a cell for each inode slot, a free list for each CPU, the pool of inode numbers, and
 /// the book. The lists, the pool, the book and the flag of its deferred records have cache lines of their own. All blocks
@@ -61,7 +61,7 @@ impl<C: Commits, B: Blocks> Service<C, B> {
 
     /// The lock of an inode's cell, where there is such a slot: each slot has its own.
     /// Only tested: each inode slot and each CPU has a lock of its own.
-    pub fn inode_lock(&self, ino: Ino) -> Option<&Mutex<LockedCell<C, B>>>
+    pub fn inode_lock(&self, ino: Ino) -> Option<&RwLock<LockedCell<C, B>>>
         // There is a lock exactly for the number of an inode slot.
         ensures { MatchOption result (vec_len self.now.cells.locks ≤ ino)
             (λ lock. slice_get self.now.cells.locks.items ino ≡ Some lock.now) }

@@ -11,16 +11,16 @@ ghost use Rattle.nv_service.specs.Refusing.{IsMisfitOrWant};
 ghost use Rattle.nv_service.specs.ShowRuns.{AreAllVisits, FindsCell, FindsPin, FindsUnpin, IsMarked, SeesCell};
 
 use crate::cell::LockedCell;
-use crate::guards::hold_at;
 use crate::names::{Blocks, Commits};
 use crate::service::Service;
+use crate::view_guards::share_at;
 use nv_base::{Epoch, Fault, Handle, MismatchPart};
 use nv_calls::Answer;
 use nv_cell::InodeCell;
 use nv_entry::Tree;
 use nv_reader::{Showing, show_on};
 use std::alloc::Global;
-use std::sync::{Mutex, Wait};
+use std::sync::{RwLock, Wait};
 
 /// Pins a snapshot: a show over the slots of the device begins. `NoSnapshot` where it doesn't live, and `Mismatch` of
 /// `Records` where it takes no more pins.
@@ -99,7 +99,7 @@ fn visit<C: Commits, B: Blocks, R: Wait>(
 {
     let handle = showing.visited();
     let lock = slot_lock(service, &handle)?;
-    let place = hold_at(rt, lock, handle.ino)?;
+    let place = share_at(rt, lock, handle.ino)?;
     let cell = place.part();
     note_once(service.alloc, met, service.cells.len(), &handle)?;
     see(service.alloc, cell, snapshot, showing)
@@ -109,7 +109,7 @@ fn visit<C: Commits, B: Blocks, R: Wait>(
 fn slot_lock<'a, C: Commits, B: Blocks>(
     service: &'a Service<C, B>,
     handle: &Handle,
-) -> Result<&'a Mutex<LockedCell<C, B>>, Fault>
+) -> Result<&'a RwLock<LockedCell<C, B>>, Fault>
     ensures slot { OnOk result (handle.now.ino < service.now.geometry.numbers.inodes) }
     ensures none { OnErr result (service.now.geometry.numbers.inodes ≤ handle.now.ino) }
     ensures err { FailsOnly (fault.Mismatch part.Names) result }

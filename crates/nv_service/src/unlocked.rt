@@ -4,6 +4,7 @@ ghost use Rattle.std.specs.Prelude.{◌≡◌, ◌≤◌, [], length, map, vec_c
 ghost use Rattle.nv_service.specs.Locked.{IsAt, blocks_there};
 ghost use Rattle.nv_service.specs.UnlockedParts.{AreAllSlots, list_told, rest_told, cell_told};
 
+use crate::beside::Beside;
 use crate::cell::LockedCell;
 use crate::cell_locks::CellLocks;
 use crate::list::LockedList;
@@ -40,9 +41,9 @@ pub(crate) fn unlock_cells<C: Commits, B: Blocks>(
             ino,
             version,
             cell,
-            blocks,
-            owner,
+            beside,
         } = locked;
+        let Beside { blocks, owner } = Beside::out_of(beside);
         cells.push_reserved(cell_or_empty(alloc, geometry, version, cell));
         rests.push_reserved(BesideCell {
             slot,
@@ -104,8 +105,7 @@ pub(crate) fn lock_cells<C: Commits, B: Blocks>(
             ino,
             version: cell.version(),
             cell: Some(cell),
-            blocks,
-            owner,
+            beside: Beside { blocks, owner }.hidden(),
         };
         locks.put_back(slot, locked);
     }

@@ -19,7 +19,7 @@ use nv_service::{Blocks, Commits, LockedCell, Service, Session};
 use std::alloc::Global;
 use std::process::Abort;
 use std::sync::atomic::{AtomicBool, AtomicU64, Ordering};
-use std::sync::{MutexGuard, Wait};
+use std::sync::{RwLockWriteGuard, Wait};
 use std::thread;
 
 /// Room for ten files and three directories.
@@ -87,18 +87,18 @@ fn held<'a, C: Commits, B: Blocks, R: Wait + Abort>(
     rt: &R,
     service: &'a Service<C, B>,
     ino: u64,
-) -> MutexGuard<'a, LockedCell<C, B>> {
+) -> RwLockWriteGuard<'a, LockedCell<C, B>> {
     service
         .inode_lock(Ino::new(ino))
         .expect(rt, "a slot")
-        .lock(rt)
+        .write(rt)
 }
 
 /// Asserts that another comes to hold a cell before the turns are used up.
 fn is_taken<C: Commits, B: Blocks>(rt: &impl Abort, service: &Service<C, B>, ino: u64) {
     let lock = service.inode_lock(Ino::new(ino)).expect(rt, "a slot");
     for _turn in 0..TURNS {
-        if lock.try_lock().is_none() {
+        if lock.try_write().is_none() {
             return;
         }
         thread::yield_now();
@@ -176,8 +176,8 @@ impl Overtaking {
         rt: &R,
         service: &'a Service<C, B>,
         (_, new, low, high, other): &Move,
-        lower: MutexGuard<'a, LockedCell<C, B>>,
-    ) -> MutexGuard<'a, LockedCell<C, B>> {
+        lower: RwLockWriteGuard<'a, LockedCell<C, B>>,
+    ) -> RwLockWriteGuard<'a, LockedCell<C, B>> {
         // The round before is over.
         let higher = held(rt, service, *high);
         self.asked.fetch_add(1, Ordering::SeqCst);

@@ -112,7 +112,7 @@ impl Swap {
     fn has_places<C: Commits, B: Blocks, R: Wait + Abort>(self, rt: &R, service: &Service<C, B>) {
         for slot in 0..INODES {
             let lock = service.inode_lock(Ino::new(slot)).expect(rt, "a cell");
-            let found = lock.lock(rt).ino();
+            let found = lock.write(rt).ino();
             same_for(rt, &(self, slot), found, Ino::new(self.ino_in(slot)));
         }
         for cpu in 0..CPUS {
@@ -133,7 +133,7 @@ fn swap_cells<C: Commits, B: Blocks, R: Wait + Abort>(
 ) {
     let one = service.inode_lock(Ino::new(one)).expect(rt, "a cell");
     let other = service.inode_lock(Ino::new(other)).expect(rt, "a cell");
-    mem::swap(&mut *one.lock(rt), &mut *other.lock(rt));
+    mem::swap(&mut *one.write(rt), &mut *other.write(rt));
 }
 
 fn swap_lists<C: Commits, B: Blocks, R: Wait + Abort>(rt: &R, service: &Service<C, B>) {

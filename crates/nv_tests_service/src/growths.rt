@@ -44,7 +44,7 @@ struct Refused {
 fn none_is_held<C: Commits, B: Blocks>(rt: &impl Abort, service: &Service<C, B>) {
     for ino in 0..ROOMY[4] {
         let lock = service.inode_lock(Ino::new(ino)).expect(rt, "a cell");
-        holds_for(rt, &("cell", ino), lock.try_lock().is_some());
+        holds_for(rt, &("cell", ino), lock.try_write().is_some());
     }
     for cpu in 0..ROOMY[1] {
         let lock = service.list_lock(cpu).expect(rt, "a list");

@@ -61,7 +61,7 @@ fn finds<C: Commits, B: Blocks, R: Wait + Abort>(
     commits: u64,
 ) {
     let lock = service.inode_lock(Ino::new(1)).expect(rt, "a slot");
-    let mut place = lock.lock(rt);
+    let mut place = lock.write(rt);
     session.meet_cell(rt, service, &mut place);
     let cell = place.cell().expect(rt, "a cell");
     same_for(rt, &"version", cell.version(), commits);

@@ -169,7 +169,7 @@ impl Pinned {
         session: &mut Session<C, B>,
     ) {
         let root = service.inode_lock(Ino::new(0)).expect(rt, "a root");
-        let guard = root.lock(rt);
+        let guard = root.write(rt);
         self.held.store(true, Ordering::SeqCst);
         holds_for(rt, &"pinned", is_pinned(rt, service));
         holds_for(rt, &"dropped", !is_dropped(rt, alloc, service, session));

@@ -8,11 +8,11 @@ ghost use Rattle.nv_service.specs.RunCalls.{IsReadRun, told_as, viewing};
 ghost use Rattle.nv_service.specs.SessionRuns.{IsSessionRun};
 ghost use Rattle.nv_service.specs.Sessions.{IsGivenBack, IsViewedBy};
 
-use crate::guards::hold;
 use crate::names::{Blocks, Commits};
 use crate::seen::Seen;
 use crate::service::Service;
 use crate::session::Session;
+use crate::view_guards::hold_view;
 use nv_base::{Bytes, Fault, Handle};
 use nv_calls::{Call, list_on, lookup_on, read_on, stat_on};
 use std::sync::Wait;
@@ -42,17 +42,17 @@ impl<C: Commits, B: Blocks> Session<C, B> {
         ensures err { IfErr result (MayRefuseView (Call.Read file offset count)) }
     {
         self.keeps_only_what_was_refused();
-        let mut cell = hold(rt, service, file.ino)?;
+        let guard = hold_view(rt, service, &self.seat.notes, file.ino)?;
         let found = read_on(
             file.ino,
-            cell.part(),
+            guard.part(),
             Call::Read {
                 file,
                 offset,
                 count,
             },
         );
-        self.see(rt, service, &mut *cell, found)
+        self.see(rt, service, guard, found)
     }
 
     /// Asks for a node's kind, mode, size and last commit. `Stale`.
@@ -72,9 +72,9 @@ impl<C: Commits, B: Blocks> Session<C, B> {
         ensures err { IfErr result (MayRefuseView (Call.Stat handle)) }
     {
         self.keeps_only_what_was_refused();
-        let mut cell = hold(rt, service, handle.ino)?;
-        let found = stat_on(handle.ino, cell.part(), Call::Stat { handle });
-        self.see(rt, service, &mut *cell, found)
+        let guard = hold_view(rt, service, &self.seat.notes, handle.ino)?;
+        let found = stat_on(handle.ino, guard.part(), Call::Stat { handle });
+        self.see(rt, service, guard, found)
     }
 
     /// Asks for the names of a directory in order. `Stale`, `NotDirectory`; `OutOfMemory` where room for the names was
@@ -93,9 +93,9 @@ impl<C: Commits, B: Blocks> Session<C, B> {
         ensures err { IfErr result (MayRefuseView (Call.List dir)) }
     {
         self.keeps_only_what_was_refused();
-        let mut cell = hold(rt, service, dir.ino)?;
-        let found = list_on(dir.ino, cell.part(), Call::List { dir });
-        self.see(rt, service, &mut *cell, found)
+        let guard = hold_view(rt, service, &self.seat.notes, dir.ino)?;
+        let found = list_on(dir.ino, guard.part(), Call::List { dir });
+        self.see(rt, service, guard, found)
     }
 
     /// Asks for the handle that a directory binds a name to. `Stale`, `NotDirectory`, `BadName`, `Missing`.
@@ -115,8 +115,8 @@ impl<C: Commits, B: Blocks> Session<C, B> {
         ensures err { IfErr result (MayRefuseView (Call.Lookup dir name)) }
     {
         self.keeps_only_what_was_refused();
-        let mut cell = hold(rt, service, dir.ino)?;
-        let found = lookup_on(dir.ino, cell.part(), Call::Lookup { dir, name });
-        self.see(rt, service, &mut *cell, found)
+        let guard = hold_view(rt, service, &self.seat.notes, dir.ino)?;
+        let found = lookup_on(dir.ino, guard.part(), Call::Lookup { dir, name });
+        self.see(rt, service, guard, found)
     }
 }

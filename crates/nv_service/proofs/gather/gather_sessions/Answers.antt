@@ -1,4 +1,4 @@
-use Rattle.std.proofs.Common.{ℕ, ◌≤◌, List, ap, arith, slice_index}
+use Rattle.std.proofs.Common.{◌∙◌, ℕ, ◌≤◌, List, ap, arith, slice_index}
 use Rattle.std.proofs.lemmas.List.{length_push}
 use Rattle.std.proofs.lemmas.List.Elements.{All-push}
 use Rattle.std.proofs.lemmas.List.Sums.{sum_by_push}
@@ -34,5 +34,5 @@ loop-session-preserved g c =
       seen = All-push (λ (s : SessionValue). (n : ℕ) → slice_index s.seen n ≤ slice_index c.join.new.self n)
           c.loop-session.yielded session
           (λ k d lt n. let was = i.seen k d lt n in let more = c.join.ensures.mine n in omega (arith, was, more))
-          (λ n. let same = ap (λ (xs : List ℕ). slice_index xs n) seat.seen in let more = c.join.ensures.other n in omega (arith, same, more));
+          (λ n. let same = ap (λ (xs : List ℕ). slice_index xs n) (c.into_notes.ensures ∙ seat.seen) in let more = c.join.ensures.other n in omega (arith, same, more));
     }

@@ -1,6 +1,8 @@
 use Rattle.std.proofs.Common.{◌≡◌, ◌∙◌, ℕ, List, ap, arith, length, rules, sym, vec_len}
 use Rattle.std.specs.List.{range_with_len}
 use Rattle.std.proofs.lemmas.List.{length-map}
+use Rattle.nv_service.specs.Fresh.{Owned}
+use Rattle.nv_service.specs.Locked.{version_at}
 use Rattle.nv_service.specs.UnlockedParts.{BesideCellValue, Told, rest_told, cell_told}
 use Rattle.nv_service.proofs.Slots.{falling, fallen, left}
 use Rattle.nv_service.proofs.Turning.{split_last, turned}
@@ -48,10 +50,10 @@ invariant_of-locked g c =
     let fit = (split_last rest_told cell_told l.rests.items c.pop-in-Some.new.self.items c.in-Some-pop.rest l.cells.items
     c.pop.new.self.items c.in-Some.cell l.invariant.fit c.in-Some-pop.ensures.items c.in-Some.ensures.items).1 in
     let at = sym (ap (λ (r : BesideCellValue). r.version) is ∙ ap (λ (t : Told). t.version) fit) in (
-      c.rest.invariant.0,
-      ap (λ (r : BesideCellValue). r.blocks) is ∙ ap (λ (t : Told). t.blocks) fit,
-      c.rest.invariant.1,
-      c.version.ensures ∙ at,
+      c.hidden.ensures.parts ∙ c.rest.invariant.0,
+      c.hidden.ensures.blocks ∙ ap (λ (r : BesideCellValue). r.blocks) is ∙ ap (λ (t : Told). t.blocks) fit,
+      ap (λ (o : Owned). o.ino) c.hidden.ensures.owner ∙ c.rest.invariant.1,
+      c.version.ensures ∙ at ∙ ap (λ (o : Owned). version_at g.C.Commits.opened c.rest.inside.ino o.version) (sym c.hidden.ensures.owner),
       sym c.version.ensures,
     )
 

@@ -1,5 +1,7 @@
 use Rattle.std.proofs.Common.{◌≡◌, ◌∙◌, ℕ, ap, arith, sym, vec_len}
 use Rattle.std.specs.List.{range_with_len}
+use Rattle.nv_service.specs.Fresh.{Owned}
+use Rattle.nv_service.specs.Locked.{version_at}
 use Rattle.nv_service.specs.UnlockedParts.{Told, rest_told, cell_told}
 use Rattle.nv_service.proofs.Slots.{falling, joined, risen}
 use Rattle.nv_service.proofs.Turning.{joined_last, turned}
@@ -18,13 +20,14 @@ loop-slot-preserved g c =
     let cell = c.push_reserved.ensures in
     let rest = c.push_reserved-in-Some.ensures in
     let low = vec_len c.take_last.new.self.locks in
+    let owned = ap (λ (o : Owned). version_at g.C.Commits.opened c.locked.inside.ino o.version) (sym c.out_of-blocks.ensures.owner) in
     record {
       locks = taken.room ∙ i.locks;
       count = omega (arith, i.count, taken.taken, rest.len);
       parts = omega (arith, i.parts, cell.len, rest.len);
       fit = joined_last rest_told cell_told c.loop-slot.rests.items c.push_reserved-in-Some.new.self.items _ c.loop-slot.cells.items
           c.push_reserved.new.self.items c.cell_or_empty.result i.fit rest.items cell.items
-          (same_told _ _ _ _ c.locked.invariant.1 c.locked.invariant.3 ∙ sym c.cell_or_empty.ensures);
+          (same_told _ _ _ _ (c.out_of-blocks.ensures.blocks ∙ c.locked.invariant.1) (c.locked.invariant.3 ∙ owned) ∙ sym c.cell_or_empty.ensures);
       slots = joined c.loop-slot.rests.items c.push_reserved-in-Some.new.self.items _ low (vec_len c.loop-slot.rests)
           (i.slots ∙ ap (λ (n : ℕ). falling n (vec_len c.loop-slot.rests)) (sym taken.taken)) rest.items taken.slot
           ∙ ap (λ (n : ℕ). falling low n) (sym rest.len);

@@ -1,6 +1,6 @@
 use Rattle.std.proofs.Common.{◌≡◌, ◌∙◌, ◌++◌, ◌∷◌, ◌<◌, ◌+◌, ℕ, List, [], Option, Some, None, ap, arith, inl, inr, length, map, slice_index, subst, sym, vec_len}
-use Rattle.std.specs.Sync.Mutex.{mutex_guard_value}
-use Rattle.std.specs.declared.sync.MutexGuard.{MutexGuard}
+use Rattle.std.specs.Sync.RwLock.{write_guard_value}
+use Rattle.core.specs.declared.rw.RwLockWriteGuard.{RwLockWriteGuard}
 use Rattle.std.proofs.lemmas.Bool.{cases_lt}
 use Rattle.std.proofs.lemmas.List.{length_push}
 use Rattle.nv_service.specs.Locked.{LockedValue, version_at}
@@ -19,31 +19,31 @@ still_back opened before after t same back = record {
 }
 
 -- the guard that is taken out is the last one's
-module _ (guards : List (Option (MutexGuard LockedValue))) (items front : List TakenCell) (t : TakenCell) (are : ArePlaces guards items)
+module _ (guards : List (Option (RwLockWriteGuard LockedValue))) (items front : List TakenCell) (t : TakenCell) (are : ArePlaces guards items)
     (is : items ≡ front ++ t ∷ []) where
   last : LastGuard guards front t
   last = last_guard guards front t (are ∙ ap (map told) is)
 
-  module _ (left : List (Option (MutexGuard LockedValue))) (got : Option (MutexGuard LockedValue))
-      (popped : (before : List (Option (MutexGuard LockedValue))) (end : Option (MutexGuard LockedValue)) → guards ≡ before ++ end ∷ []
+  module _ (left : List (Option (RwLockWriteGuard LockedValue))) (got : Option (RwLockWriteGuard LockedValue))
+      (popped : (before : List (Option (RwLockWriteGuard LockedValue))) (end : Option (RwLockWriteGuard LockedValue)) → guards ≡ before ++ end ∷ []
       → (left ≡ before) × (got ≡ end)) where
     some : got ≡ Some last.guard
     some = (popped last.before (Some last.guard) last.is).1
 
     not_none : got ≡ None → ⊥
     not_none none = none_some last.guard (sym none ∙ some) where
-      none_some : (g : MutexGuard LockedValue) → None ≡ Some g → ⊥
+      none_some : (g : RwLockWriteGuard LockedValue) → None ≡ Some g → ⊥
       none_some g same = cc
 
     others : ArePlaces left front
-    others = subst (λ (l : List (Option (MutexGuard LockedValue))). ArePlaces l front)
+    others = subst (λ (l : List (Option (RwLockWriteGuard LockedValue))). ArePlaces l front)
         (sym (popped last.before (Some last.guard) last.is).0) last.places
 
-    own : (guard : MutexGuard LockedValue) → got ≡ Some guard → mutex_guard_value guard ≡ empty_place t
+    own : (guard : RwLockWriteGuard LockedValue) → got ≡ Some guard → write_guard_value guard ≡ empty_place t
     own guard this =
         let same : guard ≡ last.guard = one_some guard last.guard (sym this ∙ some) in
-        ap (λ (g : MutexGuard LockedValue). mutex_guard_value g) same ∙ last.place where
-          one_some : (g h : MutexGuard LockedValue) → Some g ≡ Some h → g ≡ h
+        ap (λ (g : RwLockWriteGuard LockedValue). write_guard_value g) same ∙ last.place where
+          one_some : (g h : RwLockWriteGuard LockedValue) → Some g ≡ Some h → g ≡ h
           one_some g h both = cc
 
 pub unreachable-requires : goal.unreachable-requires

@@ -6,12 +6,13 @@ use Rattle.nv_service.specs.Refusing.{view_faults}
 use Rattle.nv_service.proofs.Found.{found_at}
 use Rattle.nv_service.proofs.OtherRefusals.{exit_is, grown_view, read_within}
 use Rattle.nv_service.proofs.ViewRuns.{held_read, not_read}
+use Rattle.nv_service.specs.ViewGuards.{place_of}
 use Rattle.nv_service.proofs.session.Session.read.Goals as goal
 
 pub returns-clause-ok : goal.returns-clause-ok
 returns-clause-ok g c =
-    let own : c.deref_mut.result.now.ino ≡ c.args.file.ino = search rules in
-    let same : c.part.result.now.state.version ≡ c.deref_mut.result.now.version = search rules in
+    let own : (place_of c.in_ok-guard.guard).ino ≡ c.args.file.ino = c.in_ok-guard.ensures.ok in
+    let same : c.part.result.now.state.version ≡ (place_of c.in_ok-guard.guard).version = c.part.ensures.version in
     c.see.ensures.ok _ _ own
     (subst (λ (v : ℕ). IfOk c.read_on-found.result (IsFoundAt v (call.Read c.args.file c.args.offset c.args.count))) same
     (found_at _ _ _ _ _ (c.read_on-found.ensures.own)))
@@ -24,10 +25,10 @@ returns-clause-err g c =
 pub returns-clause-run : goal.returns-clause-run
 returns-clause-run g c =
     held_read c.args.service.now.geometry.numbers c.args.self.now.number c.args.file.ino (call.Read c.args.file c.args.offset c.args.count) refl refl c.part.result.now
-    c.in_ok-cell.ensures.slot c.see.result c.read_on-found.result c.see.ensures.told c.read_on-found.ensures.own c.read_on-found.ensures.view c.read_on-found.ensures.err refl
+    c.in_ok-guard.ensures.slot c.see.result c.read_on-found.result c.see.ensures.told c.read_on-found.ensures.own c.read_on-found.ensures.view c.read_on-found.ensures.err refl
 
-pub returns-in_err-cell-clause-run : goal.returns-in_err-cell-clause-run
-returns-in_err-cell-clause-run g c =
+pub returns-in_err-guard-clause-run : goal.returns-in_err-guard-clause-run
+returns-in_err-guard-clause-run g c =
     not_read c.args.service.now.geometry.numbers c.args.self.now.number c.args.file.ino (call.Read c.args.file c.args.offset c.args.count) refl refl c.from_residual.result _
-    (exit_is c.from_residual.result _ c.from_residual.ensures.1) c.in_err-cell.ensures.err c.in_err-cell.ensures.stale
-    c.in_err-cell.ensures.misplaced
+    (exit_is c.from_residual.result _ c.from_residual.ensures.1) c.in_err-guard.ensures.err c.in_err-guard.ensures.stale
+    c.in_err-guard.ensures.misplaced
