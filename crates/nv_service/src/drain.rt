@@ -115,8 +115,8 @@ fn drain_next<C: Commits, B: Blocks, R: Wait>(
     Ok(picked)
 }
 
-/// The first deferred record, which stays in the book. Where there is none, this is the call's last step: it takes no lock where
-/// the flag says so, and then makes no room.
+/// The first deferred record, which stays in the book. Where there is none, this is the call's last step. Where the flag tells
+/// that there is none, no lock is taken, and the hand gets no room for a block.
 fn look_first<C: Commits, B: Blocks, R: Wait>(
     rt: &R,
     service: &Service<C, B>,
