@@ -34,25 +34,28 @@ impl CommitRun {
         }
     }
 
-    /// The run of the entries with one more, which has this id. A run that has ended stays until as many entries stand
-    /// behind it as it has: a commit of many entries, or one of another file, does not take a long run away.
+    /// The run of the entries with one more, which has this id. A run ends at an entry that does not go on from it. The
+    /// first of a commit that leaves a gap, since another file's commit came between, begins the next run at once. One
+    /// behind the first of its commit begins none: the run stays until as many entries stand behind it as it has, so a
+    /// commit of many entries does not take a long run away.
     pub fn with(self, entries: &[Entry], id: EntryId) -> CommitRun
         requires { IsCommitRun entries.now self }
         ensures { (e : Entry) → e.id ≡ id → IsCommitRun (entries.now ++ e ∷ []) result }
     {
+        if id.place != 0 {
+            return self;
+        }
         let len = entries.len();
         let commit = id.commit.number();
         let (many, behind) = (self.to.saturating_sub(self.from), len - self.to);
-        let follows = id.place == 0
-            && behind == 0
-            && commit.saturating_sub(self.first) == many as u64;
+        let follows = behind == 0 && commit.saturating_sub(self.first) == many as u64;
         if follows && many > 0 {
             return CommitRun {
                 to: len + 1,
                 ..self
             };
         }
-        if id.place != 0 || behind < many {
+        if behind > 0 && behind < many {
             return self;
         }
         CommitRun {
