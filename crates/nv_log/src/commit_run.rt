@@ -34,10 +34,10 @@ impl CommitRun {
         }
     }
 
-    /// The run of the entries with one more, which has this id. A run ends at an entry that does not go on from it. The
-    /// first of a commit that leaves a gap, since another file's commit came between, begins the next run at once. One
-    /// behind the first of its commit begins none: the run stays until as many entries stand behind it as it has, so a
-    /// commit of many entries does not take a long run away.
+    /// The run of the entries with one more, which has this id. The first entry of a commit goes on from a run that ends
+    /// right before it and at the commit before. Else it begins the next run at once, as behind a gap where another file's
+    /// commit came between. An entry behind the first of its commit keeps the run, so one commit of many entries does not
+    /// take a long run away: the commit after it does.
     pub fn with(self, entries: &[Entry], id: EntryId) -> CommitRun
         requires { IsCommitRun entries.now self }
         ensures { (e : Entry) → e.id ≡ id → IsCommitRun (entries.now ++ e ∷ []) result }
@@ -47,16 +47,13 @@ impl CommitRun {
         }
         let len = entries.len();
         let commit = id.commit.number();
-        let (many, behind) = (self.to.saturating_sub(self.from), len - self.to);
-        let follows = behind == 0 && commit.saturating_sub(self.first) == many as u64;
+        let many = self.to.saturating_sub(self.from);
+        let follows = self.to == len && commit.saturating_sub(self.first) == many as u64;
         if follows && many > 0 {
             return CommitRun {
                 to: len + 1,
                 ..self
             };
-        }
-        if behind > 0 && behind < many {
-            return self;
         }
         CommitRun {
             from: len,
