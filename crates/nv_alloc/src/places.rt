@@ -89,11 +89,9 @@ impl PlaceSet {
             → slice_index_or self.now k false ≡ full }
         ensures at { result < length self.now → slice_index_or self.now result false ≢ full }
     {
-        let end = end_of_bits(&self.bits, from as usize, full);
-        if end < self.len as usize {
-            return end as u32;
-        }
-        self.len
+        let bit = end_of_bits(&self.bits, from as usize, full);
+        let end = bit.min(self.len as usize);
+        end as u32
     }
 
     pub(crate) fn insert(&mut self, place: u32)
@@ -111,6 +109,7 @@ impl PlaceSet {
     }
 
     /// Puts a place in, or takes it out.
+    #[inline(always)]
     fn write(&mut self, place: u32, value: bool)
         requires { place < length self.old }
         ensures { self.new ≡ slice_set self.old place value }

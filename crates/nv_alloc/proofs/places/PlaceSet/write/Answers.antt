@@ -1,4 +1,4 @@
-use Rattle.std.proofs.Common.{ℕ, ◌<◌, List, arith, ap, length}
+use Rattle.std.proofs.Common.{◌<◌, arith}
 use Rattle.nv_alloc.proofs.WordBits.{flags_of-written, length-flags_of, set_written, words_within}
 use Rattle.nv_alloc.proofs.places.PlaceSet.write.Goals as goal
 use Rattle.nv_alloc.proofs.places.PlaceSet.write.Goals.{After-self}
