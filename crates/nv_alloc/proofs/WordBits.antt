@@ -151,7 +151,7 @@ none_from n k none i from = sym (shifted_from n k i from) ∙ ap (λ (m : ℕ). 
 
 pub lowest_from : (n k : ℕ) → n < 2 ^ 64 → 0 < n / 2 ^ k → let at = k + trailing_zeros w64 (n / 2 ^ k) in
     (at < 64) × (bit_at n at ≡ 1) × ((i : ℕ) → k ≤ i → i < at → bit_at n i ≡ 0)
-lowest_from n k fits some = go (trailing_zeros w64 (n / 2 ^ k)) (bit_at-trailing_zeros w64 (n / 2 ^ k) some (omega (arith, fits, shr_le n k))) where
+lowest_from n k fits some = go _ (bit_at-trailing_zeros w64 (n / 2 ^ k) some (omega (arith, fits, shr_le n k))) where
   go : (t : ℕ) → (t < 64) × (bit_at (n / 2 ^ k) t ≡ 1) × ((i : ℕ) → i < t → bit_at (n / 2 ^ k) i ≡ 0)
       → (k + t < 64) × (bit_at n (k + t) ≡ 1) × ((i : ℕ) → k ≤ i → i < k + t → bit_at n i ≡ 0)
   go t is =
@@ -245,7 +245,7 @@ set_first len count bits words groups small within low mid up = record {
   bits_len = b;
   words_len = w;
   groups_len = length_first (word_count (word_count count)) (word_count (length words)) groups up (omega (arith, b, w));
-  past = λ k h. let none : min 1 (count - k) ≡ 0 = omega (arith, within, h) in bit_first count (word_count len) bits low (omega arith) k ∙ none;
+  past = λ k h. let none : min 1 (count - k) ≡ 0 = omega (arith, within, h) in bit_first count _ bits low (omega arith) k ∙ none;
   words_marked = marks_first count (word_count (length bits)) words bits (omega (arith, b)) (rw b low) (omega (arith, b)) mid;
   groups_marked =
       marks_first (word_count count) (word_count (length words)) groups words (omega (arith, b, w)) (rw w mid) (omega (arith, b, w)) up;

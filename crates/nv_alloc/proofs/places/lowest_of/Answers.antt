@@ -22,4 +22,4 @@ first_in-bit-requires c =
     record { first = first; small = omega (arith, within_words c.args.bits.now c.first_in-word.result first.some) }
 
 pub returns : goal.returns
-returns c = first_is_lowest c.args.len c.args.bits.now c.args.words.now c.args.groups.now c.first_in-bit.result c.requires c.first_in-bit.ensures
+returns c = first_is_lowest _ _ _ _ _ c.requires c.first_in-bit.ensures
