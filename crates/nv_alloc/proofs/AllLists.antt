@@ -2,16 +2,18 @@
 use Rattle.std.proofs.Common.{◌≡◌, ℕ, zero, suc, ◌+◌, ◌-◌, ◌<◌, ◌≤◌, ◌==◌, ◌&&◌, ◌||◌, ◌∙◌, ◌++◌, Bool, true, false, cond, not, List, [], ◌∷◌, Option, Some, None, length, map, set, get_or, arith, refl, ap, sym, subst}
 use Rattle.std.specs.List.{AllByRecursion}
 use Rattle.std.specs.Option.{option_or}
-use Rattle.std.proofs.lemmas.Bool.{eq-eqb, eqb-false, eqb-true, false≢true, le-leb, lt-ltb}
+use Rattle.std.proofs.lemmas.Bool.{eq-eqb, eqb-false, eqb-true, false_from_ne_true, false≢true, le-leb, lt-ltb}
+use Rattle.std.proofs.Math.Nat.{le_trans}
 use Rattle.std.proofs.lemmas.List.{get_or-set_other, get_or-set_same, length-set}
 use Rattle.nv_base.specs.Homes.{IsHome, home_start}
 use Rattle.nv_base.specs.declared.geometry.GeometryNumbers.{GeometryNumbers}
 use Rattle.nv_base.proofs.HomeRanges.{cuts}
 use Rattle.nv_alloc.specs.Block.{BlockValue, block_by, numbers_of, without_block}
-use Rattle.nv_alloc.specs.FreeList.{AreListsOf, FreeBlocks, IsHomeList, free_blocks, is_home, no_list, with_home, without}
+use Rattle.nv_alloc.specs.FreeList.{AreListsOf, FreeBlocks, IsFreeList, IsHomeList, free_blocks, is_home, no_list, with_home, without}
 use Rattle.nv_alloc.specs.Giving.{takes}
 use Rattle.nv_alloc.specs.Numbers.{has}
 use Rattle.nv_alloc.proofs.Shelves.{home_is}
+use Rattle.nv_alloc.proofs.Slots.{none_by, without_absent}
 
 -- ---- one list
 
@@ -23,23 +25,7 @@ among P (m ∷ ms) n all h = go (m == n) refl h (λ k. among P ms n all.1 k) whe
   go true q k later = subst P (eqb-true m n q) all.0
   go false q k later = later k
 
--- a list that does not have a number has no block of it, and loses none
-pub none_by : (bs : List BlockValue) (n : ℕ) → has (numbers_of bs) n ≡ false → block_by bs n ≡ None
-none_by [] n h = refl
-none_by (b ∷ bs) n h = go (b.number == n) h (none_by bs n) where
-  go : (c : Bool) → (c || has (numbers_of bs) n) ≡ false → (has (numbers_of bs) n ≡ false → block_by bs n ≡ None)
-      → cond c (Some b) (block_by bs n) ≡ None
-  go true k rest = cc
-  go false k rest = rest k
-
-pub without_absent : (bs : List BlockValue) (n : ℕ) → has (numbers_of bs) n ≡ false → without_block n bs ≡ bs
-without_absent [] n h = refl
-without_absent (b ∷ bs) n h = go (b.number == n) h (without_absent bs n) where
-  go : (c : Bool) → (c || has (numbers_of bs) n) ≡ false → (has (numbers_of bs) n ≡ false → without_block n bs ≡ bs)
-      → cond (not c) (b ∷ without_block n bs) (without_block n bs) ≡ b ∷ bs
-  go true k rest = cc
-  go false k rest = ap (λ cs. b ∷ cs) (rest k)
-
+-- a list that does not have a number loses none
 pub same_list : (l : FreeBlocks) (n : ℕ) → has (numbers_of l.blocks) n ≡ false → without n l ≡ l
 same_list l n h = ap (λ (bs : List BlockValue). let r : FreeBlocks = record l { blocks = bs } in r) (without_absent l.blocks n h)
 
@@ -161,13 +147,7 @@ out_by (b ∷ bs) n m = go (b.number == n) refl (b.number == m) refl (n == m) re
 
 pub left_by : (ls : List FreeBlocks) (n m : ℕ)
     → block_by (free_blocks (map (without n) ls)) m ≡ cond (n == m) None (block_by (free_blocks ls) m)
-left_by [] n m = nothing (n == m) where
-  none : Option BlockValue
-  none = None
-
-  nothing : (c : Bool) → none ≡ cond c none none
-  nothing true = refl
-  nothing false = refl
+left_by [] n m = out_by [] n m
 left_by (l ∷ ls) n m =
     either_by (without_block n l.blocks) (free_blocks (map (without n) ls)) m
     ∙ ap (λ (o : Option BlockValue). option_or o (block_by (free_blocks (map (without n) ls)) m)) (out_by l.blocks n m)
@@ -198,31 +178,23 @@ absent_at (l ∷ ls) n k lt h =
 
 -- no list has a number that is not one of the device
 module _ (g : GeometryNumbers) (lists : List FreeBlocks) (are : AreListsOf g lists) where
-  between : (a b c : ℕ) → a ≤ b → b ≤ c → a ≤ c
-  between a b c first then' = omega (arith, first, then')
-
   upto : 0 < g.cpus → (k j : ℕ) → j + k ≡ g.cpus → home_start g.blocks g.cpus j ≤ g.blocks
   upto some zero j e =
       let same : g.cpus ≡ j = omega (arith, e) in
       subst (λ (m : ℕ). home_start g.blocks g.cpus m ≤ g.blocks) same
       (subst (λ (m : ℕ). m ≤ g.blocks) (sym (cuts g.blocks g.cpus some).last) (omega arith))
-  upto some (suc k) j e =
-      between (home_start g.blocks g.cpus j) (home_start g.blocks g.cpus (j + 1)) g.blocks ((cuts g.blocks g.cpus some).in_order j)
-      (upto some k (j + 1) (omega (arith, e)))
+  upto some (suc k) j e = le_trans ((cuts g.blocks g.cpus some).in_order j) (upto some k (j + 1) (omega (arith, e)))
 
   past : (n j : ℕ) → g.blocks ≤ n → j < length lists → has_number lists n j ≡ false
-  past n j le lt = go (has_number lists n j) refl where
-    go : (b : Bool) → has_number lists n j ≡ b → b ≡ false
-    go false q = refl
-    go true q =
-        let cpu : j < g.cpus = omega (arith, lt, are.cpus) in
-        let some : 0 < g.cpus = omega (arith, cpu) in
-        let l = are.each j cpu in
-        let ns = numbers_of (get_or lists j no_list).blocks in
-        let low : n < (get_or lists j no_list).end = among (λ (m : ℕ). m < (get_or lists j no_list).end) ns n l.free.below_end q in
-        let end : (get_or lists j no_list).end ≤ g.blocks =
-        subst (λ (m : ℕ). m ≤ g.blocks) (sym l.end) (upto some (g.cpus - (j + 1)) (j + 1) (omega (arith, cpu))) in
-        absurd (omega (arith, low, end, le))
+  past n j le lt = false_from_ne_true (has_number lists n j) (λ q.
+      let cpu : j < g.cpus = omega (arith, lt, are.cpus) in
+      let some : 0 < g.cpus = omega (arith, cpu) in
+      let l = are.each j cpu in
+      let ns = numbers_of (get_or lists j no_list).blocks in
+      let low : n < (get_or lists j no_list).end = among (λ (m : ℕ). m < (get_or lists j no_list).end) ns n l.free.below_end q in
+      let end : (get_or lists j no_list).end ≤ g.blocks =
+      subst (λ (m : ℕ). m ≤ g.blocks) (sym l.end) (upto some (g.cpus - (j + 1)) (j + 1) (omega (arith, cpu))) in
+      omega (arith, low, end, le))
 
   pub none_past : (n : ℕ) → g.blocks ≤ n → block_by (free_blocks lists) n ≡ None
   none_past n le = none_in lists n (λ j lt. past n j le lt)
@@ -248,28 +220,22 @@ module _ (g : GeometryNumbers) (lists : List FreeBlocks) (are : AreListsOf g lis
 
   -- the list of another CPU has no block of the number, and none is at home there
   elsewhere : (j : ℕ) → j < length lists → (j ≡ home → ⊥) → has_number lists n j ≡ false
-  elsewhere j lt ne = go (has_number lists n j) refl where
-    go : (b : Bool) → has_number lists n j ≡ b → b ≡ false
-    go false q = refl
-    go true q =
-        let l = its_list j lt in
-        let ns = numbers_of (get_or lists j no_list).blocks in
-        absurd (ne (only j lt (record {
-          from = subst (λ (s : ℕ). s ≤ n) l.start (among (λ (m : ℕ). (get_or lists j no_list).start ≤ m) ns n l.free.from_start q);
-          below = subst (λ (s : ℕ). n < s) l.end (among (λ (m : ℕ). m < (get_or lists j no_list).end) ns n l.free.below_end q);
-        })))
+  elsewhere j lt ne = false_from_ne_true (has_number lists n j) (λ q.
+      let l = its_list j lt in
+      let ns = numbers_of (get_or lists j no_list).blocks in
+      ne (only j lt (record {
+        from = subst (λ (s : ℕ). s ≤ n) l.start (among (λ (m : ℕ). (get_or lists j no_list).start ≤ m) ns n l.free.from_start q);
+        below = subst (λ (s : ℕ). n < s) l.end (among (λ (m : ℕ). m < (get_or lists j no_list).end) ns n l.free.below_end q);
+      })))
 
   strange : (j : ℕ) → j < length lists → (j ≡ home → ⊥) → is_home (get_or lists j no_list) n ≡ false
-  strange j lt ne = go (is_home (get_or lists j no_list) n) refl where
-    go : (b : Bool) → is_home (get_or lists j no_list) n ≡ b → b ≡ false
-    go false q = refl
-    go true q =
-        let l = its_list j lt in
-        let range = home_is (get_or lists j no_list).start (get_or lists j no_list).end n q in
-        absurd (ne (only j lt (record {
-          from = subst (λ (s : ℕ). s ≤ n) l.start range.0;
-          below = subst (λ (s : ℕ). n < s) l.end range.1;
-        })))
+  strange j lt ne = false_from_ne_true (is_home (get_or lists j no_list) n) (λ q.
+      let l = its_list j lt in
+      let range = home_is (get_or lists j no_list).start (get_or lists j no_list).end n q in
+      ne (only j lt (record {
+        from = subst (λ (s : ℕ). s ≤ n) l.start range.0;
+        below = subst (λ (s : ℕ). n < s) l.end range.1;
+      })))
 
   pub its_block : block_by (free_blocks lists) n ≡ block_by (get_or lists home no_list).blocks n
   its_block = one_in lists n home home_within elsewhere
@@ -307,12 +273,24 @@ module _ (g : GeometryNumbers) (lists : List FreeBlocks) (are : AreListsOf g lis
         go true p true q z r = cc
         go false p y q z r = cc
 
-  -- the lists stay those of the device where the home list does
-  pub lists_still : (new : FreeBlocks) → IsHomeList g home new → AreListsOf g (set lists home new)
-  lists_still new fine = record {
+  -- the lists stay those of the device where the home list has other blocks
+  pub lists_still : (new : FreeBlocks) (blocks : List BlockValue) → new ≡ record (get_or lists home no_list) { blocks = blocks }
+      → IsFreeList new → AreListsOf g (set lists home new)
+  lists_still new blocks is free = record {
     cpus = length-set lists home new ∙ are.cpus;
     each = λ j lt. go j lt (j == home) refl;
   } where
+    was : IsHomeList g home (get_or lists home no_list)
+    was = are.each home cpu
+
+    fine : IsHomeList g home new
+    fine = record {
+      start = ap (λ (l : FreeBlocks). l.start) is ∙ was.start;
+      end = ap (λ (l : FreeBlocks). l.end) is ∙ was.end;
+      size = ap (λ (l : FreeBlocks). l.size) is ∙ was.size;
+      free = free;
+    }
+
     go : (j : ℕ) → j < g.cpus → (b : Bool) → (j == home) ≡ b → IsHomeList g j (get_or (set lists home new) j no_list)
     go j lt true q =
         let same : home ≡ j = sym (eqb-true j home q) in

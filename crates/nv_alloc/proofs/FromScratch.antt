@@ -1,6 +1,6 @@
 -- A rising list with the right members is the free list from scratch.
-use Rattle.std.proofs.Common.{◌≡◌, ◌≢◌, ℕ, zero, suc, ◌+◌, ◌<◌, ◌≤◌, ◌==◌, ◌&&◌, Bool, true, false, not, nat_lt, nat_le, List, [], ◌∷◌, arith, refl, ap, sym, ◌∙◌, subst}
-use Rattle.std.proofs.lemmas.Bool.{eqb-true, eqb-false, leb-true, leb-false, ltb-true, ltb-false, lt-ltb, le-ltb, le-leb, lt-leb}
+use Rattle.std.proofs.Common.{◌≡◌, ◌≢◌, ℕ, zero, suc, ◌+◌, ◌<◌, ◌≤◌, ◌==◌, ◌&&◌, inl, inr, Bool, true, false, not, nat_lt, nat_le, List, [], ◌∷◌, arith, refl, ap, sym, ◌∙◌, subst}
+use Rattle.std.proofs.lemmas.Bool.{cases_Bool, eqb-true, eqb-false, leb-true, leb-false, ltb-true, ltb-false, lt-ltb, le-ltb, le-leb, lt-leb}
 use Rattle.nv_alloc.specs.Numbers.{IsRising, has, unused}
 use Rattle.nv_alloc.proofs.Lists.{all_above, has-below, has-first, has-other}
 
@@ -15,10 +15,7 @@ wanted-below : (is_used : ℕ → Bool) (low end n : ℕ) → n < low → is_wan
 wanted-below is_used low end n h = rw (lt-leb low n h) refl
 
 wanted-above : (is_used : ℕ → Bool) (low end n : ℕ) → end ≤ n → is_wanted is_used low end n ≡ false
-wanted-above is_used low end n h = go (nat_le low n) refl where
-  go : (b : Bool) → nat_le low n ≡ b → is_wanted is_used low end n ≡ false
-  go true q = rw (q, le-ltb n end h) refl
-  go false q = rw q refl
+wanted-above is_used low end n h = elim (cases_Bool (nat_le low n)) [ inl q ↦ rw (q, le-ltb n end h) refl | inr q ↦ rw q refl ]
 
 wanted-later : (is_used : ℕ → Bool) (low end n : ℕ) → n ≢ low → is_wanted is_used low end n ≡ is_wanted is_used (low + 1) end n
 wanted-later is_used low end n ne = ap (λ b. b && nat_lt n end && not (is_used n)) (go (nat_le low n) refl) where

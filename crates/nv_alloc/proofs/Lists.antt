@@ -1,6 +1,6 @@
 -- Lists of numbers.
-use Rattle.std.proofs.Common.{◌≡◌, ◌≢◌, ℕ, zero, suc, ◌+◌, ◌<◌, ◌≤◌, ◌==◌, ◌++◌, Bool, true, false, cond, nat_lt, List, [], ◌∷◌, length, map, get_or, take, arith, refl, zero-add, ap, ◌∙◌, subst}
-use Rattle.std.proofs.lemmas.Bool.{eqb-true, eq-eqb, ne_eqb, le-ltb, lt-ltb}
+use Rattle.std.proofs.Common.{◌≡◌, ◌≢◌, ℕ, zero, suc, ◌+◌, ◌<◌, ◌≤◌, ◌==◌, ◌++◌, inl, inr, Bool, true, false, cond, nat_lt, List, [], ◌∷◌, length, map, get_or, take, arith, refl, zero-add, ap, ◌∙◌, subst}
+use Rattle.std.proofs.lemmas.Bool.{cases_Bool, eqb-true, eq-eqb, ne_eqb, le-ltb, lt-ltb}
 use Rattle.std.proofs.lemmas.List.Sums.{sum_by-append, sum_by-cons}
 use Rattle.std.specs.List.{AllByRecursion}
 use Rattle.nv_alloc.specs.Numbers.{IsRising, has, times, put_by}
@@ -57,11 +57,9 @@ times-put_by {X} number n x (y ∷ ys) = go (nat_lt (number x) (number y)) refl 
 
 pub length-put_by : {X : Type 0} (number : X → ℕ) (x : X) (xs : List X) → length (put_by number x xs) ≡ length xs + 1
 length-put_by number x [] = refl
-length-put_by number x (y ∷ ys) = go (nat_lt (number x) (number y)) refl (length-put_by number x ys) where
-  go : (b : Bool) → nat_lt (number x) (number y) ≡ b → length (put_by number x ys) ≡ length ys + 1
-      → length (put_by number x (y ∷ ys)) ≡ length (y ∷ ys) + 1
-  go true q ih = rw q (omega arith)
-  go false q ih = rw q (omega arith)
+length-put_by number x (y ∷ ys) =
+    let rest = length-put_by number x ys in
+    elim (cases_Bool (nat_lt (number x) (number y))) [ inl q ↦ rw q (omega arith) | inr q ↦ rw q (omega (arith, rest)) ]
 
 -- an item below all others goes first
 pub put_by-first : {X : Type 0} (number : X → ℕ) (x : X) (xs : List X) → AllByRecursion (λ m. number x < m) (map number xs)

@@ -1,6 +1,6 @@
 -- The lowest of some numbers.
-use Rattle.std.proofs.Common.{◌≡◌, ℕ, ◌<◌, ◌≤◌, ◌==◌, ◌||◌, ◌⊎◌, inl, inr, Bool, true, false, nat_le, List, [], ◌∷◌, ◌++◌, Option, None, Some, fold, arith, refl, ap, sym, subst, ◌∙◌}
-use Rattle.std.proofs.lemmas.Bool.{eq-eqb, leb-true, leb-false}
+use Rattle.std.proofs.Common.{◌≡◌, ℕ, ◌<◌, ◌≤◌, ◌==◌, ◌⊎◌, inl, inr, Bool, true, false, nat_le, List, [], ◌∷◌, ◌++◌, Option, None, Some, fold, arith, refl, ap, sym, subst, ◌∙◌}
+use Rattle.std.proofs.lemmas.Bool.{cases_Bool, eq-eqb, leb-true, leb-false}
 use Rattle.std.proofs.lemmas.List.Folds.{fold-map}
 use Rattle.std.proofs.lemmas.List.Sums.{fold-append}
 use Rattle.std.specs.List.{AllByRecursion}
@@ -12,10 +12,7 @@ all_from a m [] le h = tt
 all_from a m (n ∷ ns) le h = (omega (arith, h.0, le), all_from a m ns le h.1)
 
 has-later : (k n : ℕ) (ns : List ℕ) → has ns k ≡ true → has (n ∷ ns) k ≡ true
-has-later k n ns h = go (n == k) where
-  go : (b : Bool) → (b || has ns k) ≡ true
-  go true = refl
-  go false = h
+has-later k n ns h = elim (cases_Bool (n == k)) [ inl e ↦ rw e refl | inr e ↦ rw e h ]
 
 -- the number is among them or is `known`, and none is below it
 record IsLowestFrom (known : ℕ) (ns : List ℕ) (low : ℕ) : Type 0 where

@@ -1,6 +1,6 @@
 -- Runs of consecutive numbers.
-use Rattle.std.proofs.Common.{◌≡◌, ◌≢◌, ℕ, zero, suc, ◌+◌, ◌-◌, ◌<◌, ◌≤◌, ◌==◌, Bool, true, false, List, [], ◌∷◌, Option, Some, None, length, map, drop, get_or, arith, refl, ap, sym, ◌∙◌, subst, ◌^◌, length-drop, add-zero}
-use Rattle.std.proofs.lemmas.Bool.{eqb-true, eqb-false, eq-eqb}
+use Rattle.std.proofs.Common.{◌≡◌, ◌≢◌, ℕ, zero, suc, ◌+◌, ◌-◌, ◌<◌, ◌≤◌, ◌==◌, inl, inr, Bool, true, false, List, [], ◌∷◌, Option, Some, None, length, map, drop, get_or, arith, refl, ap, sym, ◌∙◌, subst, ◌^◌, length-drop, add-zero}
+use Rattle.std.proofs.lemmas.Bool.{cases_Bool, eqb-true, eqb-false, eq-eqb}
 use Rattle.std.proofs.lemmas.List.{drop-drop, drop-map, get_or-drop, length-map}
 use Rattle.std.specs.List.{AllByRecursion, range_with_len}
 use Rattle.std.specs.Option.{is_some}
@@ -10,7 +10,7 @@ use Rattle.nv_alloc.specs.FreeList.{AreFlagsFrom, ArePlaced}
 use Rattle.nv_alloc.specs.Numbers.{IsRising}
 use Rattle.nv_alloc.specs.Places.{present}
 use Rattle.nv_alloc.specs.Runs.{join, free_runs_of, numbers_in, HaveGaps, IsCutInto}
-use Rattle.nv_alloc.proofs.Slots.{placed_above}
+use Rattle.nv_alloc.proofs.Slots.{placed_above, some_there}
 
 -- the first run, if there is one, begins above the number
 abbrev StartAbove : ℕ → List FreeRun → Type 0
@@ -19,10 +19,7 @@ StartAbove n (run ∷ runs) = n < run.first
 
 join_starts : (n m : ℕ) (runs : List FreeRun) → n < m → StartAbove n (join m runs)
 join_starts n m [] h = h
-join_starts n m (run ∷ runs) h = go (run.first == m + 1) refl where
-  go : (b : Bool) → (run.first == m + 1) ≡ b → StartAbove n (join m (run ∷ runs))
-  go true e = rw e h
-  go false e = rw e h
+join_starts n m (run ∷ runs) h = elim (cases_Bool (run.first == m + 1)) [ inl e ↦ rw e h | inr e ↦ rw e h ]
 
 runs_start : (n : ℕ) (numbers : List ℕ) → AllByRecursion (λ m. n < m) numbers → StartAbove n (free_runs_of numbers)
 runs_start n [] h = tt
@@ -31,10 +28,10 @@ runs_start n (m ∷ ms) h = join_starts n m (free_runs_of ms) h.0
 -- a run that begins later is not joined
 join_apart : (n : ℕ) (runs : List FreeRun) → StartAbove (n + 1) runs → join n runs ≡ record { first = n; last = n } ∷ runs
 join_apart n [] h = refl
-join_apart n (run ∷ runs) h = go (run.first == n + 1) refl where
-  go : (b : Bool) → (run.first == n + 1) ≡ b → join n (run ∷ runs) ≡ record { first = n; last = n } ∷ run ∷ runs
-  go true e = absurd (omega (arith, eqb-true run.first (n + 1) e, h))
-  go false e = rw e refl
+join_apart n (run ∷ runs) h = elim (cases_Bool (run.first == n + 1)) [
+  | inl e ↦ absurd (omega (arith, eqb-true run.first (n + 1) e, h))
+  | inr e ↦ rw e refl
+]
 
 join_next : (n last : ℕ) (runs : List FreeRun)
     → join n (record { first = n + 1; last = last } ∷ runs) ≡ record { first = n; last = last } ∷ runs
@@ -50,15 +47,10 @@ ArePlaced-drop (suc k) s (Some b ∷ slots) p = let e : s + 1 + k ≡ s + suc k 
 
 -- ---- the flags of the slots that are left
 
-by_place : (slots : List (Option BlockValue)) (k : ℕ) → is_some (get_or slots k None) ≡ get_or (map is_some slots) k false
-by_place [] k = refl
-by_place (slot ∷ slots) zero = refl
-by_place (slot ∷ slots) (suc k) = by_place slots k
-
 pub flag_left : (at k : ℕ) (flags : List Bool) (slots : List (Option BlockValue)) → AreFlagsFrom at flags slots
     → is_some (get_or slots k None) ≡ get_or flags (at + k) false
 flag_left at k flags slots left =
-    by_place slots k ∙ ap (λ (l : List Bool). get_or l k false) (sym left.1) ∙ get_or-drop at flags k false
+    sym (some_there slots k) ∙ ap (λ (l : List Bool). get_or l k false) (sym left.1) ∙ get_or-drop at flags k false
 
 pub slots_left : (at : ℕ) (flags : List Bool) (slots : List (Option BlockValue)) → AreFlagsFrom at flags slots
     → at + length slots ≡ length flags

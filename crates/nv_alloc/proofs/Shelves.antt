@@ -1,6 +1,6 @@
 -- A free list's slots, and the set of places beside them; pools.
 use Rattle.std.proofs.Common.{◌≡◌, ℕ, zero, suc, ◌+◌, ◌-◌, ◌^◌, ◌<◌, ◌≤◌, ◌&&◌, ◌==◌, ◌⊎◌, inl, inr, Bool, true, false, cond, not, nat_lt, nat_le, List, [], ◌∷◌, Option, Some, None, length, map, set, get_or, replicate, arith, refl, ap, sym, subst, ◌∙◌}
-use Rattle.std.proofs.lemmas.Bool.{cases_lt, eqb-true, leb-true, leb-false, ltb-true, ltb-false}
+use Rattle.std.proofs.lemmas.Bool.{cases_lt, eqb-true, false≢true, leb-true, leb-false, ltb-true, ltb-false}
 use Rattle.std.proofs.lemmas.List.{get_or_default, get_or_past, length-map, length-replicate, map-set, length-set}
 use Rattle.std.specs.List.{AllByRecursion, range_with_len}
 use Rattle.std.specs.Option.{is_some}
@@ -11,13 +11,13 @@ use Rattle.nv_alloc.specs.Numbers.{IsRising, has, put_by}
 use Rattle.nv_alloc.specs.InodePool.{IsPool}
 use Rattle.nv_alloc.specs.Places.{IsLowest, places, present}
 use Rattle.nv_alloc.proofs.Lists.{has-below, length-put_by}
-use Rattle.nv_alloc.proofs.Slots.{some_there, present-empty, present-take, ArePlaced-take, ArePlaced-put, present-put, has-present, numbers-present, placed_above, length-present, block_by-present, present-out, length-out, sized-out, sized_at, no_block, present-none, ArePlaced-none, flags-none, full_slots, present-full, ArePlaced-full, flags-full, length-full, length-present-full, places-empty, places-take, places-put, has-places, places-rising, places-within, length-places}
+use Rattle.nv_alloc.proofs.Slots.{some_there, present-empty, present-take, ArePlaced-take, ArePlaced-put, present-put, has-present, numbers-present, placed_above, length-present, block_by-present, present-out, length-out, sized-out, sized_at, no_block, present-none, ArePlaced-none, flags-none, full_slots, present-full, ArePlaced-full, flags-full, length-full, length-present-full, places-take, places-put, has-places, places-rising, places-within}
 
 within_flags : (flags : List Bool) (k : ℕ) → get_or flags k false ≡ true → k < length flags
-within_flags flags k e = go (cases_lt k (length flags)) where
-  go : (k < length flags) ⊎ (length flags ≤ k) → k < length flags
-  go (inl h) = h
-  go (inr h) = let q : false ≡ true = sym (get_or_past flags k false h) ∙ e in cc
+within_flags flags k e = elim (cases_lt k (length flags)) [
+  | inl h ↦ h
+  | inr h ↦ absurd (false≢true (sym (get_or_past flags k false h) ∙ e))
+]
 
 -- what the test of a home range says
 pub home_is : (start end n : ℕ) → (nat_le start n && nat_lt n end) ≡ true → (start ≤ n) × (n < end)
@@ -236,12 +236,6 @@ pub pool_taken : (flags : List Bool) (place : ℕ) → IsLowest flags (Some plac
 pool_taken flags place low = let e : 0 + place ≡ place = omega arith in
     places-take place 0 flags low.0 low.1 ∙ ap (λ n. n ∷ places 0 (set flags place false)) e
 
-pub pool_empty : (flags : List Bool) → IsLowest flags None → places 0 flags ≡ []
-pool_empty flags low = places-empty 0 flags low
-
-pub pool_within : (flags : List Bool) (place : ℕ) → IsLowest flags (Some place) → place < length flags
-pool_within flags place low = within_flags flags place low.0
-
 pub pool_has : (flags : List Bool) (n : ℕ) → has (places 0 flags) n ≡ get_or flags n false
 pool_has flags n = has-places n 0 n flags (omega arith)
 
@@ -255,6 +249,3 @@ pool_lawful inodes flags e = record {
   below = (places-within 0 inodes 0 flags (omega arith) (omega
       (arith, e))).1;
 }
-
-pub pool_count : (flags : List Bool) → length (places 0 flags) ≤ length flags
-pool_count flags = length-places 0 flags

@@ -1,5 +1,5 @@
 -- Sets of places, and slots with blocks in them.
-use Rattle.std.proofs.Common.{◌≡◌, ◌≢◌, ℕ, zero, suc, ◌+◌, ◌<◌, ◌≤◌, Bool, true, false, List, [], ◌∷◌, Option, Some, None, length, map, set, get_or, replicate, arith, refl, ap, sym, subst, ◌∙◌}
+use Rattle.std.proofs.Common.{◌≡◌, ◌≢◌, ℕ, zero, suc, ◌+◌, ◌<◌, ◌≤◌, ◌==◌, ◌||◌, Bool, true, false, cond, not, List, [], ◌∷◌, Option, Some, None, length, map, set, get_or, replicate, arith, refl, ap, sym, subst, ◌∙◌}
 use Rattle.std.proofs.lemmas.Bool.{eq-eqb, le-ltb, ne_eqb}
 use Rattle.std.proofs.lemmas.List.{length-map}
 use Rattle.std.proofs.lemmas.List.FromFn.{length-range_with_len}
@@ -150,19 +150,31 @@ present-put (suc k) s (Some x ∷ slots) b p h free e =
 
 -- ---- the block of a number, out of its slot
 
-block_by-below : (n : ℕ) (bs : List BlockValue) → AllByRecursion (λ m. n < m) (numbers_of bs) → block_by bs n ≡ None
-block_by-below n [] h = refl
-block_by-below n (b ∷ bs) h = let ne : b.number ≢ n = omega (arith, h.0) in rw (ne_eqb b.number n ne) (block_by-below n bs h.1)
+-- a list that does not have a number has no block of it, and loses none
+pub none_by : (bs : List BlockValue) (n : ℕ) → has (numbers_of bs) n ≡ false → block_by bs n ≡ None
+none_by [] n h = refl
+none_by (b ∷ bs) n h = go (b.number == n) h (none_by bs n) where
+  go : (c : Bool) → (c || has (numbers_of bs) n) ≡ false → (has (numbers_of bs) n ≡ false → block_by bs n ≡ None)
+      → cond c (Some b) (block_by bs n) ≡ None
+  go true k rest = cc
+  go false k rest = rest k
 
-without-below : (n : ℕ) (bs : List BlockValue) → AllByRecursion (λ m. n < m) (numbers_of bs) → without_block n bs ≡ bs
-without-below n [] h = refl
-without-below n (b ∷ bs) h = let ne : b.number ≢ n = omega (arith, h.0) in
-    rw (ne_eqb b.number n ne) (ap (λ cs. b ∷ cs) (without-below n bs h.1))
+pub without_absent : (bs : List BlockValue) (n : ℕ) → has (numbers_of bs) n ≡ false → without_block n bs ≡ bs
+without_absent [] n h = refl
+without_absent (b ∷ bs) n h = go (b.number == n) h (without_absent bs n) where
+  go : (c : Bool) → (c || has (numbers_of bs) n) ≡ false → (has (numbers_of bs) n ≡ false → without_block n bs ≡ bs)
+      → cond (not c) (b ∷ without_block n bs) (without_block n bs) ≡ b ∷ bs
+  go true k rest = cc
+  go false k rest = ap (λ cs. b ∷ cs) (rest k)
+
+-- slots that begin later do not have the number
+has-later : (s n : ℕ) (slots : List (Option BlockValue)) → ArePlaced (s + 1) slots → n < s + 1 → has (numbers_of (present slots)) n ≡ false
+has-later s n slots p h = has-below n (numbers_of (present slots)) (placed_above (s + 1) n slots h p)
 
 pub block_by-present : (k s n : ℕ) (slots : List (Option BlockValue)) → ArePlaced s slots → n ≡ s + k
     → block_by (present slots) n ≡ get_or slots k None
 block_by-present k s n [] p e = refl
-block_by-present zero s n (None ∷ slots) p e = block_by-below n (present slots) (placed_above (s + 1) n slots (omega (arith, e)) p)
+block_by-present zero s n (None ∷ slots) p e = none_by (present slots) n (has-later s n slots p (omega (arith, e)))
 block_by-present zero s n (Some x ∷ slots) p e = rw (eq-eqb x.number n (omega (arith, p.0, e))) refl
 block_by-present (suc k) s n (None ∷ slots) p e = block_by-present k (s + 1) n slots p (omega (arith, e))
 block_by-present (suc k) s n (Some x ∷ slots) p e =
@@ -172,10 +184,9 @@ block_by-present (suc k) s n (Some x ∷ slots) p e =
 pub present-out : (k s n : ℕ) (slots : List (Option BlockValue)) → ArePlaced s slots → n ≡ s + k
     → present (set slots k None) ≡ without_block n (present slots)
 present-out k s n [] p e = refl
-present-out zero s n (None ∷ slots) p e = sym (without-below n (present slots) (placed_above (s + 1) n slots (omega (arith, e)) p))
+present-out zero s n (None ∷ slots) p e = sym (without_absent (present slots) n (has-later s n slots p (omega (arith, e))))
 present-out zero s n (Some x ∷ slots) p e =
-    rw (eq-eqb x.number n (omega (arith, p.0, e)))
-    (sym (without-below n (present slots) (placed_above (s + 1) n slots (omega (arith, e)) p.1)))
+    rw (eq-eqb x.number n (omega (arith, p.0, e))) (sym (without_absent (present slots) n (has-later s n slots p.1 (omega (arith, e)))))
 present-out (suc k) s n (None ∷ slots) p e = present-out k (s + 1) n slots p (omega (arith, e))
 present-out (suc k) s n (Some x ∷ slots) p e =
     let ne : x.number ≢ n = omega (arith, p.0, e) in

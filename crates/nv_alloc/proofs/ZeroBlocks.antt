@@ -9,7 +9,7 @@ use Rattle.nv_alloc.specs.FreeList.{ArePlaced, FreeBlocks, IsShelf}
 use Rattle.nv_alloc.specs.Giving.{takes}
 use Rattle.nv_alloc.specs.Numbers.{unused}
 use Rattle.nv_alloc.specs.Places.{present}
-use Rattle.nv_alloc.proofs.AllLists.{none_by}
+use Rattle.nv_alloc.proofs.Slots.{none_by}
 use Rattle.nv_alloc.proofs.Lists.{has-below, put_by-first}
 
 -- ---- blocks that are put from the last one on
@@ -120,9 +120,6 @@ zeros_all init now is_used n len e f is =
     (ap (λ k. zeros init.size is_used k len) e ∙ ap (λ k. zeros init.size is_used init.start k) f)
 
 -- ---- all bytes are cleared
-
-cleared : List (Option BlockValue) → List (Option BlockValue)
-cleared slots = map (option_map zeroed) slots
 
 pub present-cleared : (slots : List (Option BlockValue)) → present (map (option_map zeroed) slots) ≡ map zeroed (present slots)
 present-cleared [] = refl

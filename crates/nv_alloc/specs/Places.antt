@@ -1,5 +1,5 @@
 -- Sets of places: for each place from 0 on, whether it is in the set.
-use Rattle.std.specs.Prelude.{◌≡◌, ℕ, ◌+◌, ◌/◌, ◌%◌, ◌^◌, ◌<◌, ◌≤◌, ◌≢◌, ◌==◌, Bool, true, false, if◌then◌else◌, min, List, [], ◌∷◌, Option, Some, None, length, map, slice_index, slice_index_or}
+use Rattle.std.specs.Prelude.{◌≡◌, ℕ, ◌+◌, ◌-◌, ◌*◌, ◌/◌, ◌%◌, ◌^◌, ◌<◌, ◌≤◌, ◌≢◌, ◌==◌, Bool, true, false, if◌then◌else◌, min, List, [], ◌∷◌, Option, Some, None, length, map, slice_index, slice_index_or}
 use Rattle.std.specs.Int.{bit_at}
 use Rattle.std.specs.List.{range_with_len}
 
@@ -32,23 +32,27 @@ bit flag = if flag then 1 else 0
 abbrev pub word_count : ℕ → ℕ
 word_count bits = (bits + 63) / 64
 
--- the first bits of some words are set, and no other
-pub record AreFirst (count : ℕ) (words : List ℕ) : Type 0 where
-  -- each of the first `count` bits is set
-  pub set : (k : ℕ) → k < count → bit_of words k ≡ 1
-  -- no bit behind them is set
-  pub clear : (k : ℕ) → count ≤ k → bit_of words k ≡ 0
+-- `len` words, of which the first `count` bits are set, and no other
+abbrev pub first_bits : ℕ → ℕ → List ℕ
+first_bits count len = map (λ i. 2 ^ min 64 (count - 64 * i) - 1) (range_with_len 0 len)
+
+-- a bit is set, and none before it
+pub record IsFirst (words : List ℕ) (at : ℕ) : Type 0 where
+  -- the bit is set
+  pub found : bit_of words at ≡ 1
+  -- no bit before it is set
+  pub before : (k : ℕ) → k < at → bit_of words k ≡ 0
+
+-- a word has a bit, and none before it has
+pub record IsFirstWord (words : List ℕ) (at : ℕ) : Type 0 where
+  -- the word has a bit
+  pub some : 0 < slice_index words at
+  -- no word before it has one
+  pub none : (i : ℕ) → i < at → slice_index words i ≡ 0
 
 -- bit `i` of the marks is set exactly where word `i` has a bit
 abbrev pub AreMarks : List ℕ → List ℕ → Type 0
 AreMarks marks words = (i : ℕ) → bit_of marks i ≡ min 1 (slice_index words i)
-
--- the marks are right, except that this word may have a mark and no bit
-pub record AreMarksElsewhere (word : ℕ) (marks words : List ℕ) : Type 0 where
-  -- of each other word the mark tells whether it has a bit
-  pub others : (i : ℕ) → i ≢ word → bit_of marks i ≡ min 1 (slice_index words i)
-  -- this word has a mark if it has a bit
-  pub here : 0 < slice_index words word → bit_of marks word ≡ 1
 
 -- one bit of some words is written
 pub record WritesBit (old : List ℕ) (at b : ℕ) (new : List ℕ) : Type 0 where
@@ -60,15 +64,6 @@ pub record WritesBit (old : List ℕ) (at b : ℕ) (new : List ℕ) : Type 0 whe
   pub others : (k : ℕ) → k ≢ at → bit_of new k ≡ bit_of old k
   -- each word except that of the bit stays
   pub words : (i : ℕ) → i ≢ at / 64 → slice_index new i ≡ slice_index old i
-
--- one word is no greater than it was, and all others stay
-pub record ShrinksWord (old : List ℕ) (word : ℕ) (new : List ℕ) : Type 0 where
-  -- there are as many words as before
-  pub count : length new ≡ length old
-  -- the word is no greater than it was
-  pub here : slice_index new word ≤ slice_index old word
-  -- each other word stays
-  pub others : (i : ℕ) → i ≢ word → slice_index new i ≡ slice_index old i
 
 -- words have a bit for each place below `len`, with two levels of marks over them
 pub record IsPlaceSet (len : ℕ) (bits words groups : List ℕ) : Type 0 where

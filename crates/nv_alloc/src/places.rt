@@ -1,8 +1,8 @@
 //! A set of places of which the lowest is soon known.
 
-ghost use Rattle.std.specs.Prelude.{◌≡◌, ◌≢◌, ℕ, ◌/◌, ◌<◌, ◌≤◌, ◌^◌, true, false, IfOk, IfSome, IfNone, length, replicate, slice_index, slice_index_or, slice_set};
+ghost use Rattle.std.specs.Prelude.{◌≡◌, ◌≢◌, ℕ, ◌/◌, ◌<◌, ◌≤◌, ◌*◌, ◌-◌, ◌^◌, true, false, min, nat_lt, IfOk, IfSome, IfNone, length, replicate, slice_index, slice_index_or, slice_set};
 ghost use Rattle.std.specs.Int.{bit_at};
-ghost use Rattle.nv_alloc.specs.Places.{IsLowest, bit, bit_of, word_count, AreFirst, AreMarks, AreMarksElsewhere, ShrinksWord, WritesBit};
+ghost use Rattle.nv_alloc.specs.Places.{IsFirst, IsFirstWord, IsLowest, IsPlaceSet, bit, bit_of, flags_of, first_bits, word_count, WritesBit};
 
 use std::alloc::{AllocError, Global};
 use std::marker::Model;
@@ -36,24 +36,25 @@ impl PlaceSet {
     pub(crate) fn full(alloc: Global, len: u32) -> Result<PlaceSet, AllocError>
         ensures { IfOk result (λ set. set ≡ replicate len true) }
     {
-        let bits = ones(alloc, len as usize)?;
-        let words = ones(alloc, bits.len())?;
-        let groups = ones(alloc, words.len())?;
-        Ok(PlaceSet {
-            bits,
-            words,
-            groups,
-            len,
-        })
+        PlaceSet::alike(alloc, len, len, true)
     }
 
     /// The set of none of the places below `len`.
     pub(crate) fn empty(alloc: Global, len: u32) -> Result<PlaceSet, AllocError>
         ensures { IfOk result (λ set. set ≡ replicate len false) }
     {
-        let bits = zeros(alloc, len as usize)?;
-        let words = zeros(alloc, bits.len())?;
-        let groups = zeros(alloc, words.len())?;
+        PlaceSet::alike(alloc, len, 0, false)
+    }
+
+    /// The set of all places below `len`, or of none, of which `count` are in it.
+    fn alike(alloc: Global, len: u32, count: u32, full: bool) -> Result<PlaceSet, AllocError>
+        requires { count ≡ len * bit full }
+        ensures { IfOk result (λ set. set ≡ replicate len full) }
+    {
+        let bits = first_bits(alloc, len as usize, count as usize)?;
+        let marked = word_count(count as usize);
+        let words = first_bits(alloc, bits.len(), marked)?;
+        let groups = first_bits(alloc, words.len(), word_count(marked))?;
         Ok(PlaceSet {
             bits,
             words,
@@ -75,14 +76,7 @@ impl PlaceSet {
     pub(crate) fn lowest(&self) -> Option<u32>
         ensures { IsLowest self.now result }
     {
-        let Some(group) = first_word(&self.groups) else {
-            return None;
-        };
-        let outer = lowest_in(&self.groups, group);
-        let word = lowest_in(&self.words, outer);
-        let bit = lowest_in(&self.bits, word);
-        let place = bit as u32;
-        Some(place)
+        lowest_of(&self.bits, &self.words, &self.groups, self.len)
     }
 
     /// The first place from one on that is not in the set where `full`, or else that is; behind all places where there
@@ -95,31 +89,35 @@ impl PlaceSet {
             → slice_index_or self.now k false ≡ full }
         ensures at { result < length self.now → slice_index_or self.now result false ≢ full }
     {
-        let end = end_of_bits(&self.bits, from as usize, full);
-        if end < self.len as usize {
-            return end as u32;
-        }
-        self.len
+        let bit = end_of_bits(&self.bits, from as usize, full);
+        let end = bit.min(self.len as usize);
+        end as u32
     }
 
     pub(crate) fn insert(&mut self, place: u32)
         requires { place < length self.old }
         ensures { self.new ≡ slice_set self.old place true }
     {
-        let bit = place as usize;
-        set_bit(&mut self.bits, bit);
-        set_bit(&mut self.words, bit / 64);
-        set_bit(&mut self.groups, bit / 64 / 64);
+        self.write(place, true);
     }
 
     pub(crate) fn remove(&mut self, place: u32)
         requires { place < length self.old }
         ensures { self.new ≡ slice_set self.old place false }
     {
+        self.write(place, false);
+    }
+
+    /// Puts a place in, or takes it out.
+    #[inline(always)]
+    fn write(&mut self, place: u32, value: bool)
+        requires { place < length self.old }
+        ensures { self.new ≡ slice_set self.old place value }
+    {
         let bit = place as usize;
-        clear_bit(&mut self.bits, bit);
-        unmark(&mut self.words, &self.bits, bit / 64);
-        unmark(&mut self.groups, &self.words, bit / 64 / 64);
+        write_bit(&mut self.bits, bit, value);
+        mark(&mut self.words, &self.bits, bit / 64);
+        mark(&mut self.groups, &self.words, bit / 64 / 64);
     }
 }
 
@@ -131,36 +129,49 @@ fn word_count(bits: usize) -> usize
     (bits + 63) / 64
 }
 
-/// Words with room for some bits, and without a bit.
-fn zeros(alloc: Global, bits: usize) -> Result<Vec<u64>, AllocError>
-    requires { bits ≤ 2 ^ 32 }
-    ensures { IfOk result (λ words. words.items ≡ replicate (word_count bits) 0) }
+/// Words with room for some bits, of which the first `count` are set.
+fn first_bits(alloc: Global, bits: usize, count: usize) -> Result<Vec<u64>, AllocError>
+    requires small { bits ≤ 2 ^ 32 }
+    requires within { count ≤ bits }
+    ensures bits { IfOk result (λ words. words.items ≡ first_bits count (word_count bits)) }
+    ensures len { IfOk result (λ words. length words.items ≡ word_count bits) }
 {
-    let count = word_count(bits);
-    let words = vec![in alloc; 0; count]?;
+    let len = word_count(bits);
+    let mut words = Vec::with_capacity(alloc, len)?;
+    for word in 0..len {
+        words.push_reserved(first_bits_in(count, word));
+    }
     Ok(words)
 }
 
-/// Words with the first bits alone.
-fn ones(alloc: Global, bits: usize) -> Result<Vec<u64>, AllocError>
-    requires { bits ≤ 2 ^ 32 }
-    ensures len { IfOk result (λ words. length words.items ≡ word_count bits) }
-    ensures bits { IfOk result (λ words. AreFirst bits words.items) }
+/// A word of those whose first `count` bits are set.
+fn first_bits_in(count: usize, word: usize) -> u64
+    requires { word < 2 ^ 32 }
+    ensures { result ≡ 2 ^ min 64 (count - 64 * word) - 1 }
 {
-    let count = word_count(bits);
-    let mut words = vec![in alloc; u64::MAX; count]?;
-    let rest = bits % 64;
-    if rest == 0 {
-        return Ok(words);
+    let start = 64 * word;
+    if count <= start {
+        return 0;
     }
-    words[bits / 64] = u64::MAX >> (64 - rest);
-    Ok(words)
+    let here = (count - start).min(64);
+    u64::MAX >> (64 - here)
+}
+
+/// The lowest bit of some words, of which two levels of marks tell those that have one.
+fn lowest_of(bits: &[u64], words: &[u64], groups: &[u64], len: u32) -> Option<u32>
+    requires { IsPlaceSet len bits.now words.now groups.now }
+    ensures { IsLowest (flags_of len bits.now) result }
+{
+    let group = first_word(groups)?;
+    let outer = first_in(groups, group);
+    let word = first_in(words, outer);
+    let bit = first_in(bits, word);
+    Some(bit as u32)
 }
 
 /// The first word that has a bit.
 fn first_word(words: &[u64]) -> Option<usize>
-    ensures some { IfSome result (λ at. (at < length words.now) × ((0 < slice_index words.now at)
-        × ((i : ℕ) → i < at → slice_index words.now i ≡ 0))) }
+    ensures some { IfSome result (IsFirstWord words.now) }
     ensures none { IfNone result ((i : ℕ) → slice_index words.now i ≡ 0) }
 {
     for at in 0..words.len() {
@@ -172,13 +183,11 @@ fn first_word(words: &[u64]) -> Option<usize>
     None
 }
 
-/// The lowest bit of a word that has one.
-fn lowest_in(words: &[u64], at: usize) -> usize
-    requires some { 0 < slice_index words.now at }
+/// The lowest bit of the first word that has one.
+fn first_in(words: &[u64], at: usize) -> usize
+    requires first { IsFirstWord words.now at }
     requires small { at < 2 ^ 32 }
-    ensures word { result / 64 ≡ at }
-    ensures found { bit_of words.now result ≡ 1 }
-    ensures lowest { (k : ℕ) → k / 64 ≡ at → k < result → bit_of words.now k ≡ 0 }
+    ensures { IsFirst words.now result }
 {
     let bit = words[at].trailing_zeros() as usize;
     at * 64 + bit
@@ -227,34 +236,24 @@ fn end_of_bits(words: &[u64], from: usize, full: bool) -> usize
     from.max(words.len() * 64)
 }
 
-fn set_bit(words: &mut Vec<u64>, at: usize)
+fn write_bit(words: &mut Vec<u64>, at: usize, value: bool)
     requires { at / 64 < length words.old.items }
-    ensures { WritesBit words.old.items at 1 words.new.items }
+    ensures { WritesBit words.old.items at (bit value) words.new.items }
 {
     let word = words[at / 64];
-    words[at / 64] = word | (1 << (at % 64));
-}
-
-fn clear_bit(words: &mut Vec<u64>, at: usize)
-    requires { at / 64 < length words.old.items }
-    ensures bit { WritesBit words.old.items at 0 words.new.items }
-    ensures shrinks { ShrinksWord words.old.items (at / 64) words.new.items }
-{
-    let word = words[at / 64];
-    words[at / 64] = word & !(1 << (at % 64));
-}
-
-/// Clears the mark of a word that has no bit any more.
-fn unmark(marks: &mut Vec<u64>, words: &[u64], word: usize)
-    requires within { word < length words.now }
-    requires marked { word / 64 < length marks.old.items }
-    requires marks { AreMarksElsewhere word marks.old.items words.now }
-    ensures marks { AreMarks marks.new.items words.now }
-    ensures shrinks { ShrinksWord marks.old.items (word / 64) marks.new.items }
-{
-    let bits = words[word];
-    if bits != 0 {
-        return;
+    if value {
+        words[at / 64] = word | (1 << (at % 64));
+    } else {
+        words[at / 64] = word & !(1 << (at % 64));
     }
-    clear_bit(marks, word);
+}
+
+/// Marks whether a word has a bit.
+fn mark(marks: &mut Vec<u64>, words: &[u64], at: usize)
+    requires within { at < length words.now }
+    requires marked { at / 64 < length marks.old.items }
+    ensures { WritesBit marks.old.items at (min 1 (slice_index words.now at)) marks.new.items }
+{
+    let word = words[at];
+    write_bit(marks, at, word != 0);
 }

@@ -4,7 +4,7 @@ use Rattle.std.proofs.lemmas.List.{get_or_past}
 use Rattle.nv_alloc.proofs.places.first_word.Goals as goal
 
 pub returns-then-word-ne0-clause-some : goal.returns-then-word-ne0-clause-some
-returns-then-word-ne0-clause-some c = (c.loop-at-test.true, (omega arith, c.loop-at.invariant))
+returns-then-word-ne0-clause-some c = record { some = omega arith; none = c.loop-at.invariant }
 
 pub loop-at-preserved : goal.loop-at-preserved
 loop-at-preserved c i h = elim (cases_eq i c.loop-at.at) [

@@ -1,5 +1,6 @@
 use Rattle.std.proofs.Common.{◌∙◌, sym}
-use Rattle.nv_alloc.proofs.AllLists.{none_by, same_list}
+use Rattle.nv_alloc.proofs.AllLists.{same_list}
+use Rattle.nv_alloc.proofs.Slots.{none_by}
 use Rattle.nv_alloc.proofs.free_list.FreeList.remove.Goals as goal
 
 pub returns-then-not-has-clause-block : goal.returns-then-not-has-clause-block

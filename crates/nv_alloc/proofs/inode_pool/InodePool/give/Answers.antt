@@ -2,12 +2,13 @@ use Rattle.std.proofs.Common.{◌≡◌, true, set, ap, arith, length, length-se
 use Rattle.nv_alloc.specs.Places.{places}
 use Rattle.nv_alloc.specs.Numbers.{put_by}
 use Rattle.nv_alloc.proofs.Lists.{length-put_by}
-use Rattle.nv_alloc.proofs.Shelves.{pool_given, pool_count}
+use Rattle.nv_alloc.proofs.Shelves.{pool_given}
+use Rattle.nv_alloc.proofs.Slots.{length-places}
 use Rattle.nv_alloc.proofs.inode_pool.InodePool.give.Goals as goal
 use Rattle.nv_alloc.proofs.inode_pool.InodePool.give.Goals.{After-insert}
 
 pub overflow_add-self : goal.overflow_add-self
-overflow_add-self c = let k = pool_count c.self.inside.free in
+overflow_add-self c = let k = length-places 0 c.self.inside.free in
     omega (arith, k, c.self.invariant.sized, c.self.invariant.counted, c.self.invariant.small)
 
 given : (c : After-insert)

@@ -1,12 +1,13 @@
 use Rattle.std.proofs.Common.{◌≡◌, ◌∷◌, [], false, set, sym, ap, arith, length, refl, length-set, drop}
 use Rattle.nv_alloc.specs.Places.{places}
-use Rattle.nv_alloc.proofs.Shelves.{pool_taken, pool_empty}
+use Rattle.nv_alloc.proofs.Shelves.{pool_taken}
+use Rattle.nv_alloc.proofs.Slots.{places-empty}
 use Rattle.nv_alloc.proofs.inode_pool.InodePool.take.Goals as goal
 use Rattle.nv_alloc.proofs.inode_pool.InodePool.take.Goals.{After-remove}
 
 pub returns-in_err-place : goal.returns-in_err-place
 returns-in_err-place c =
-    let empty : places 0 c.self.inside.free ≡ [] = pool_empty c.self.inside.free c.in_err-place.ensures in
+    let empty : places 0 c.self.inside.free ≡ [] = places-empty 0 c.self.inside.free c.in_err-place.ensures in
     rw (← c.self.view_is, empty) (record { lowest = c.from_residual.ensures; rest = refl })
 
 taken : (c : After-remove)
