@@ -2,8 +2,6 @@
 use Rattle.std.proofs.Common.{◌≡◌, ℕ, ◌<◌, ◌≤◌, Bool, true, false, cond, List, Option, Some, None, IsSome, IsTrue, is_some, ◌⊎◌, inl, inr, refl, ap, sym, subst, ◌∙◌, arith}
 use Rattle.std.proofs.lemmas.Bool.{false≢true}
 use Rattle.std.specs.Cmp.Lexicographic.{same_text}
-use Rattle.std.specs.Global.{Vec}
-use Rattle.std.specs.Option.{option_map}
 use Rattle.nv_base.specs.Names.{is_lawful_name, same_name}
 use Rattle.nv_nindex.specs.declared.binding.Binding.{Binding}
 use Rattle.nv_nindex.specs.NameIndex.{IsNameIndex, Names, Rebinds, binding_of}
@@ -41,17 +39,6 @@ unreserved index room room' is = record {
   reserved_lawful = λ q reserved. cc;
 }
 
--- another name stands reserved
-pub reserved_instead : (index : Names) (name : List ℕ) (room room' : ℕ) → IsNameIndex index room → 0 < room'
-    → binding_of name index.names ≡ None → IsTrue (is_lawful_name name)
-    → IsNameIndex (record index { reserved = Some name }) room'
-reserved_instead index name room room' is some absent lawful = record {
-  has_room = λ _. some;
-  unbound = λ q reserved. let same : name ≡ q = cc in subst (λ n. binding_of n index.names ≡ None) same absent;
-  lawful = is.lawful;
-  reserved_lawful = λ q reserved. let same : name ≡ q = cc in subst (λ n. IsTrue (is_lawful_name n)) same lawful;
-}
-
 -- no name is both absent and bound
 pub not_both : (name : List ℕ) (names : List (List ℕ × Binding)) → binding_of name names ≡ None → IsSome (binding_of name names) → ⊥
 not_both name names none some = false≢true (ap is_some (sym none) ∙ some)
@@ -61,7 +48,3 @@ pub is_reserved : (index : Names) (name : List ℕ) → (IsSome (binding_of name
     → binding_of name index.names ≡ None → index.reserved ≡ Some name
 is_reserved index name (inl bound) none = absurd (not_both name index.names none bound)
 is_reserved index name (inr reserved) none = reserved
-
-pub some_key : (reserved : Option (Vec ℕ)) (name : List ℕ) → option_map (λ (key : Vec ℕ). key.items) reserved ≡ Some name → IsSome reserved
-some_key None name h = cc
-some_key (Some key) name h = refl

@@ -142,11 +142,9 @@ name_test : (name : List ℕ) → IsKeyTest same_name (same_name name)
 name_test name x y h = nat_list_eq_equiv.congr name x y h
 
 -- the names in another order, sorted, are a list of them
-pub listed : (names : List Bound) (given sorted : List Given) → AreDistinct names → map lent given ≡ names → IsPermutation given sorted
-    → IsSortedById sorted → IsListOf names (map lent sorted)
-listed names given sorted distinct all moved up =
-    let moves : IsPermutation names (map lent sorted) =
-    subst (λ l. IsPermutation l (map lent sorted)) all (IsPermutation-map lent given sorted moved) in
+pub listed : (names : List Bound) (sorted : List Given) → AreDistinct names → IsPermutation names (map lent sorted) → IsSortedById sorted
+    → IsListOf names (map lent sorted)
+listed names sorted distinct moves up =
     let distinct' : AreDistinct (map lent sorted) = distinct_permutation nat_list_eq_equiv (keys_of names) (keys_of (map lent sorted))
     (IsPermutation-map (λ (b : Bound). b.0) names (map lent sorted) moves) distinct in
     record {
@@ -168,7 +166,3 @@ lawful_all (b ∷ bs) h = (
   later : (t : Bool) (name : List ℕ) → IsSome (binding_of name bs) → IsSome (cond t (Some b.1) (binding_of name bs))
   later true name some = refl
   later false name some = some
-
-pub lawful_listed : (names sorted : List Bound) → ((name : List ℕ) → IsSome (binding_of name names) → IsTrue (is_lawful_name name))
-    → IsListOf names sorted → AreLawful sorted
-lawful_listed names sorted lawful list = lawful_all sorted (λ name some. lawful name (subst IsSome (list.same name) some))

@@ -1,5 +1,5 @@
 -- The map's bindings, as the names that contracts see.
-use Rattle.std.proofs.Common.{◌≡◌, ℕ, Bool, true, false, cond, nat_eq, List, [], ◌∷◌, map, Option, Some, refl, ap, sym, ◌∙◌}
+use Rattle.std.proofs.Common.{◌≡◌, ℕ, Bool, true, false, cond, nat_eq, List, [], ◌∷◌, map, Option, None, Some, refl, ap, sym, subst, ◌∙◌}
 use Rattle.std.specs.Cmp.Lexicographic.{same_text, nat_list_eq_equiv}
 use Rattle.std.specs.Global.{Vec}
 use Rattle.std.specs.List.{AllByRecursion, IsDistinct}
@@ -7,7 +7,7 @@ use Rattle.std.specs.Map.{AreApart, IsKeyTest, KeepsOthers, keys_of, lookup}
 use lib.Pointwise.{pointwise}
 use Rattle.nv_base.specs.Names.{same_name}
 use Rattle.nv_nindex.specs.declared.binding.Binding.{Binding}
-use Rattle.nv_nindex.specs.NameIndex.{AreDistinct, Rebinds, binding_of, shown}
+use Rattle.nv_nindex.specs.NameIndex.{AreDistinct, Names, Rebinds, binding_of, shown}
 
 -- whether a key has these bytes, as the map asks it
 abbrev pub is_key : List ℕ → Vec ℕ → Bool
@@ -31,6 +31,11 @@ pub distinct_shown : (es : List (Vec ℕ × Binding)) → IsDistinct same_key (k
 unfolding IsDistinct
 distinct_shown [] h = tt
 distinct_shown (e ∷ es) h = (all_shown e.0 es h.0, distinct_shown es h.1)
+
+-- where there are no names, none stands twice
+pub none_distinct : (index : Names) → record { names = []; reserved = None } ≡ index → AreDistinct index.names
+unfolding IsDistinct
+none_distinct index is = subst (λ (v : Names). AreDistinct v.names) is tt
 
 key_test : (name : List ℕ) → IsKeyTest same_key (is_key name)
 key_test name x y h = ap (λ bytes. pointwise nat_eq bytes y.items) (same_text name x.items (sym h))

@@ -7,6 +7,7 @@
 
 mod binding;
 mod bindings;
+mod bound_names;
 mod laws;
 mod name_index;
 

@@ -3,12 +3,12 @@
 ghost use Rattle.std.specs.Prelude.{◌≡◌, ◌↔◌, ◌⊎◌, ◌^◌, ◌<◌, [], map, length, slice_get, is_some};
 ghost use Rattle.std.specs.Prelude.{IsTrue, IsSome, OnOk, OnErr, IfOk, IfErr};
 ghost use Rattle.std.specs.Map.Iter.{ShowsInOrder};
-ghost use Rattle.std.specs.Option.{option_map};
+ghost use Rattle.std.specs.Option.{option_copied, option_map, unwrap_or};
 ghost use Rattle.nv_nindex.specs.NameIndex.{AreDistinct, AreLawful, IsListOf, Rebinds, binding_of, lent};
 ghost use Rattle.nv_base.specs.Memory.{out_of_memory};
 
+use crate::bound_names::BoundNames;
 use crate::{Binding, Bindings};
-use indexmap::IndexMap;
 use nv_base::{Fault, Name};
 use std::alloc::Global;
 use std::marker::Model;
@@ -18,33 +18,26 @@ use std::marker::Model;
 ///
 /// A call for one name costs the name's length and a look-up in a map of hashes, which on average doesn't grow
 /// with the names; `reserve_one` costs a move of all names besides where the map grows.
+/// An index takes one word until a name is reserved for the first time.
 /// Only tested: an index is `Send` and `Sync`.
 #[derive(Debug, Drop)]
 pub struct NameIndex {
     alloc: Global,
-    bindings: IndexMap<Vec<u8>, Binding>,
-    reserved: Option<Vec<u8>>,
+    // On the heap, and only once a name was reserved: most slots of inodes are no directory.
+    names: Option<Box<BoundNames>>,
 }
 
 impl Model for NameIndex {
-    ghost use Rattle.std.specs.Prelude.{map};
-    ghost use Rattle.std.specs.Option.{option_map};
-    ghost use Rattle.indexmap.specs.IndexMap.{spare};
-    ghost use Rattle.nv_nindex.specs.NameIndex.{IsNameIndex, Names, shown};
+    ghost use Rattle.std.specs.Prelude.{[], None};
+    ghost use Rattle.std.specs.Option.{option_map, unwrap_or};
+    ghost use Rattle.nv_nindex.specs.NameIndex.{Names};
 
     ghost Value = { Names };
 
-    ghost view = { λ n. record {
-      names = map shown n.bindings.entries;
-      reserved = option_map (λ key. key.items) n.reserved;
-    } };
-
-    // Its names are distinct and lawful.
-    // The reserved name is lawful and not bound, and there is room for it.
-    ghost invariant = { λ n. IsNameIndex (record {
-      names = map shown n.bindings.entries;
-      reserved = option_map (λ key. key.items) n.reserved;
-    }) (spare n.bindings) };
+    ghost view = { λ n. unwrap_or (option_map (λ bound. bound.value) n.names) (record {
+      names = [];
+      reserved = None;
+    }) };
 }
 
 impl NameIndex {
@@ -53,10 +46,16 @@ impl NameIndex {
         // A new index is empty; how many names are bound is told.
         ensures { result ≡ record { names = []; reserved = None } }
     {
-        NameIndex {
-            alloc,
-            bindings: IndexMap::new(alloc),
-            reserved: None,
+        NameIndex { alloc, names: None }
+    }
+
+    /// The names, once one was reserved. Before that there are none.
+    fn bound(&self) -> Option<&BoundNames>
+        ensures { unwrap_or (option_copied result) (record { names = []; reserved = None }) ≡ self.now }
+    {
+        match &self.names {
+            Some(bound) => Some(bound),
+            None => None,
         }
     }
 
@@ -66,14 +65,17 @@ impl NameIndex {
         ensures small { result < 2 ^ 63 }
         ensures distinct { AreDistinct self.now.names }
     {
-        self.bindings.len()
+        match self.bound() {
+            Some(bound) => bound.len(),
+            None => 0,
+        }
     }
 
     /// Whether no name is bound. Costs one read.
     pub fn is_empty(&self) -> bool
         ensures { IsTrue result ↔ (self.now.names ≡ []) }
     {
-        self.bindings.is_empty()
+        self.len() == 0
     }
 
     /// What this name is bound to, and by which entry. Costs one look-up.
@@ -82,7 +84,7 @@ impl NameIndex {
         // A name leads to its handle and the id of the entry that bound it.
         ensures { result ≡ binding_of name.now self.now.names }
     {
-        self.bindings.get(name).copied()
+        self.bound()?.get(name)
     }
 
     /// Whether this name is bound. Costs one look-up.
@@ -90,7 +92,7 @@ impl NameIndex {
         // Whether a name is bound is told.
         ensures { result ≡ is_some (binding_of name.now self.now.names) }
     {
-        self.bindings.contains_key(name)
+        self.get(name).is_some()
     }
 
     /// Whether this name stands reserved. A reserved name is not bound. Costs one comparison.
@@ -99,8 +101,8 @@ impl NameIndex {
         ensures value { IsTrue result ↔ (self.now.reserved ≡ Some name.now) }
         ensures unseen { IsTrue result → binding_of name.now self.now.names ≡ None }
     {
-        match &self.reserved {
-            Some(key) => name == key.as_slice(),
+        match self.bound() {
+            Some(bound) => bound.is_reserved(name),
             None => false,
         }
     }
@@ -127,8 +129,7 @@ impl NameIndex {
         // Each name is given with its binding.
         ensures { option_map lent result ≡ slice_get self.now.names place }
     {
-        let (name, binding) = self.bindings.get_index(place)?;
-        Some((name.as_slice(), *binding))
+        self.bound()?.at(place)
     }
 
     /// The names, each as its bytes and its binding, in the order of their places. Costs one read a name.
@@ -138,7 +139,10 @@ impl NameIndex {
         ensures distinct { AreDistinct self.now.names }
         ensures lawful { AreLawful self.now.names }
     {
-        Bindings::new(self.bindings.iter())
+        match self.bound() {
+            Some(bound) => bound.iter(),
+            None => Bindings::none(),
+        }
     }
 
     /// Makes room for one more name, which then stands reserved and is not bound. It takes the place of the
@@ -157,13 +161,12 @@ impl NameIndex {
         ensures fault { IfErr result (λ fault. fault ≡ out_of_memory) }
         ensures refused { OnErr result (self.new ≡ self.old) }
     {
-        let bytes = name.bytes();
-        if self.is_bound(bytes) {
-            return Ok(());
+        if let Some(bound) = &mut self.names {
+            return bound.reserve_one(name);
         }
-        let key = Vec::from_slice(self.alloc, bytes)?;
-        self.bindings.reserve(1)?;
-        self.reserved = Some(key);
+        let mut bound = BoundNames::new(self.alloc);
+        bound.reserve_one(name)?;
+        self.names = Some(Box::new(self.alloc, bound)?);
         Ok(())
     }
 
@@ -181,16 +184,10 @@ impl NameIndex {
             → self.new.reserved ≡ self.old.reserved }
         ensures taken { self.old.reserved ≡ Some name.now → self.new.reserved ≡ None }
     {
-        // A reserved name is not bound: it is told by one comparison, and then it is not looked for.
-        if self.is_reserved(name) {
-            let key = self.reserved.take().unwrap();
-            let _none = self.bindings.insert(key, to).unwrap();
-            return;
+        match &mut self.names {
+            Some(bound) => bound.bind(name, to),
+            None => unreachable!(),
         }
-        let Some(binding) = self.bindings.get_mut(name) else {
-            unreachable!()
-        };
-        *binding = to;
     }
 
     /// Takes a name out. An absent name changes nothing, and the reserved name stays. Costs two look-ups: the
@@ -201,7 +198,9 @@ impl NameIndex {
         ensures names { Rebinds self.old.names self.new.names name.now None }
         ensures kept { self.new.reserved ≡ self.old.reserved }
     {
-        self.bindings.swap_remove(name);
+        if let Some(bound) = &mut self.names {
+            bound.unbind(name);
+        }
     }
 
     /// Takes all names out. The reserved name stays, and so does the room. Costs a step for each name.
@@ -209,6 +208,8 @@ impl NameIndex {
         // Clearing takes all names out, and the reserved name stays.
         ensures { self.new ≡ record self.old { names = [] } }
     {
-        self.bindings.clear();
+        if let Some(bound) = &mut self.names {
+            bound.clear();
+        }
     }
 }

@@ -1,17 +1,18 @@
-use Rattle.std.proofs.Common.{ap, length, subst}
+use Rattle.std.proofs.Common.{ap, length}
 use Rattle.std.proofs.iter.runs.Sources.{from_front}
-use Rattle.std.specs.Map.Iter.{TakesFirst}
-use Rattle.nv_nindex.specs.NameIndex.{AreDistinct, AreLawful, Names, lent}
-use Rattle.nv_nindex.proofs.Order.{lawful_all}
-use Rattle.nv_nindex.proofs.Shown.{distinct_shown}
+use Rattle.std.specs.Map.Iter.{ShowsInOrder, TakesFirst}
+use Rattle.nv_nindex.specs.NameIndex.{lent}
+use Rattle.nv_nindex.proofs.Shown.{none_distinct}
 use Rattle.nv_nindex.proofs.name_index.NameIndex.iter.Goals as goal
 
-pub returns-clause-runs : goal.returns-clause-runs
-returns-clause-runs c = from_front (TakesFirst lent) lent (λ s. s) (λ s t h. ap length h.0) (λ s x t h. h)
+runs : ShowsInOrder lent
+runs = from_front (TakesFirst lent) lent (λ s. s) (λ s t h. ap length h.0) (λ s x t h. h)
 
-pub returns-clause-distinct : goal.returns-clause-distinct
-returns-clause-distinct c =
-    subst (λ (v : Names). AreDistinct v.names) c.self.view_is (distinct_shown c.self.inside.bindings.entries c.iter.ensures.unique)
+pub returns-in-Some-clause-runs : goal.returns-in-Some-clause-runs
+returns-in-Some-clause-runs c = runs
 
-pub returns-clause-lawful : goal.returns-clause-lawful
-returns-clause-lawful c = subst (λ (v : Names). AreLawful v.names) c.self.view_is (lawful_all _ c.self.invariant.lawful)
+pub returns-in-None-clause-runs : goal.returns-in-None-clause-runs
+returns-in-None-clause-runs c = runs
+
+pub returns-in-None-clause-distinct : goal.returns-in-None-clause-distinct
+returns-in-None-clause-distinct c = none_distinct c.args.self.now (rw c.in-None.is at c.bound.ensures)

@@ -1,8 +1,5 @@
-use Rattle.std.proofs.Common.{subst}
-use Rattle.nv_nindex.specs.NameIndex.{AreDistinct, Names}
-use Rattle.nv_nindex.proofs.Shown.{distinct_shown}
+use Rattle.nv_nindex.proofs.Shown.{none_distinct}
 use Rattle.nv_nindex.proofs.name_index.NameIndex.len.Goals as goal
 
-pub returns-clause-distinct : goal.returns-clause-distinct
-returns-clause-distinct c =
-    subst (λ (v : Names). AreDistinct v.names) c.self.view_is (distinct_shown c.self.inside.bindings.entries c.len.ensures.unique)
+pub returns-in-None-clause-distinct : goal.returns-in-None-clause-distinct
+returns-in-None-clause-distinct c = none_distinct c.args.self.now (rw c.in-None.is at c.bound.ensures)

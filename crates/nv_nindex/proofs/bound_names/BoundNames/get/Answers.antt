@@ -1,7 +1,7 @@
 use Rattle.std.proofs.Common.{◌∙◌, ap}
 use Rattle.nv_nindex.specs.NameIndex.{Names, binding_of}
 use Rattle.nv_nindex.proofs.Shown.{lookup_shown}
-use Rattle.nv_nindex.proofs.name_index.NameIndex.get.Goals as goal
+use Rattle.nv_nindex.proofs.bound_names.BoundNames.get.Goals as goal
 
 pub returns : goal.returns
 returns c =

@@ -5,8 +5,8 @@ use Rattle.std.specs.Global.{Vec}
 use Rattle.nv_nindex.specs.NameIndex.{Names, Rebinds, binding_of, shown}
 use Rattle.nv_nindex.proofs.Kept.{is_reserved, not_both, rebound, unreserved}
 use Rattle.nv_nindex.proofs.Shown.{lookup_shown, rebinds}
-use Rattle.nv_nindex.proofs.name_index.NameIndex.bind.Goals as goal
-use Rattle.nv_nindex.proofs.name_index.NameIndex.bind.Goals.{In-Some}
+use Rattle.nv_nindex.proofs.bound_names.BoundNames.bind.Goals as goal
+use Rattle.nv_nindex.proofs.bound_names.BoundNames.bind.Goals.{In-Some}
 
 -- the reserved name is bound
 reserved : (c : goal.After-unwrap-none) → option_map (λ (key : Vec ℕ). key.items) c.self.inside.reserved ≡ Some c.args.name.now

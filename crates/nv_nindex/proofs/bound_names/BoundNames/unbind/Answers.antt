@@ -2,7 +2,7 @@ use Rattle.std.proofs.Common.{None, map}
 use Rattle.nv_nindex.specs.NameIndex.{Rebinds, shown}
 use Rattle.nv_nindex.proofs.Kept.{rebound}
 use Rattle.nv_nindex.proofs.Shown.{rebinds}
-use Rattle.nv_nindex.proofs.name_index.NameIndex.unbind.Goals as goal
+use Rattle.nv_nindex.proofs.bound_names.BoundNames.unbind.Goals as goal
 
 taken_out : (c : goal.After-swap_remove)
     → Rebinds (map shown c.self.inside.bindings.entries) (map shown c.swap_remove.new.self.entries) c.args.name.now None

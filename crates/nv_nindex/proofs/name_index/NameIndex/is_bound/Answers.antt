@@ -1,8 +1,0 @@
-use Rattle.std.proofs.Common.{◌∙◌, ap, is_some}
-use Rattle.nv_nindex.specs.NameIndex.{Names, binding_of}
-use Rattle.nv_nindex.proofs.Shown.{lookup_shown}
-use Rattle.nv_nindex.proofs.name_index.NameIndex.is_bound.Goals as goal
-
-pub returns : goal.returns
-returns c = c.contains_key.ensures ∙ ap is_some (lookup_shown c.args.name.now c.self.inside.bindings.entries
-    ∙ ap (λ (v : Names). binding_of c.args.name.now v.names) c.self.view_is)
