@@ -4,10 +4,7 @@ use Rattle.std.specs.Prelude.{is_some}
 use Rattle.nv_calls.proofs.RefusedLooks.{HasPlace}
 use Rattle.nv_calls.specs.Updates.{call_of}
 use Rattle.nv_calls.specs.declared.call.Call.{Call}
-use Rattle.nv_calls.specs.declared.call.Call.TheVariants as call
 use Rattle.nv_calls.specs.declared.update.Update.{Update}
-use Rattle.nv_calls.specs.declared.update.Update.TheVariants as update
-use Rattle.nv_machine.specs.World as machine
 use Rattle.nv_core.specs.GhostCalls.{IsChangeBy, IsRequestOf, IsLookAt}
 use Rattle.nv_core.specs.declared.request.Request.{Request}
 use Rattle.nv_core.specs.declared.request.Request.TheVariants as request

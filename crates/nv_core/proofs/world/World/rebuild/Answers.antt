@@ -1,6 +1,5 @@
 use Rattle.std.proofs.Common.{◌≡◌, ◌∙◌, refl, subst, sym}
 use Rattle.nv_base.specs.declared.geometry.Geometry.{Geometry}
-use Rattle.nv_machine.specs.World as machine
 use Rattle.nv_restart.specs.Mounted.{mounted}
 use Rattle.nv_core.proofs.RestartedWorlds.{stop_run, world_goes_on}
 use Rattle.nv_core.proofs.StoppedWorlds.{hands_given, hands_go_home, world_owners, world_seen, world_stopped}
