@@ -1,5 +1,5 @@
 -- What was born in one epoch has the same holders exactly where it has the same youngest one.
-use Rattle.std.proofs.Common.{◌≡◌, ℕ, ◌+◌, ◌<◌, ◌≤◌, Bool, true, false, cond, List, [], ◌∷◌, length, Option, Some, None, arith, refl, ap, sym, ◌∙◌, get_or}
+use Rattle.std.proofs.Common.{◌≡◌, ℕ, ◌+◌, ◌<◌, ◌≤◌, Bool, true, false, List, [], ◌∷◌, Option, Some, None, arith, refl, ap, sym, ◌∙◌, get_or}
 use Rattle.std.specs.Prelude.{◌↔◌, All, Contains, filter}
 use Rattle.std.specs.List.{last_or}
 use Rattle.std.proofs.lemmas.Bool.{false≢true}
@@ -7,7 +7,7 @@ use Rattle.std.proofs.lemmas.List.Elements.{All-contains_itself, All-tail}
 use Rattle.nv_book.specs.declared.record.Record.{Record}
 use Rattle.nv_entry.specs.Held.{holds as pair_holds}
 use Rattle.nv_entry.specs.declared.held.Pair.{Pair}
-use Rattle.nv_epoch.specs.Holders.{IsHeld, IsRising, holds, youngest_holder}
+use Rattle.nv_epoch.specs.Holders.{IsRising, holds, youngest_holder}
 use Rattle.nv_epoch.proofs.HolderLaws.{holds-from_is_held, is_held, youngest_is}
 use Rattle.nv_epoch.proofs.Last.{none_passes}
 use Rattle.nv_audit.specs.KeptParts.{TellsOf}

@@ -17,7 +17,7 @@ use Rattle.nv_entry.specs.declared.item.Entry.{Entry}
 use Rattle.nv_entry.specs.Covered.{part_count, part_total}
 use Rattle.nv_entry.proofs.PartLists.{drop-some}
 use Rattle.nv_cell.specs.declared.mark.Mark.{Mark}
-use Rattle.nv_cell.specs.Filling.{AreGiven, AreOnce, AreTaken, entry_wants, log_wants, numbers_wanted, part_wants, taken_from}
+use Rattle.nv_cell.specs.Filling.{AreGiven, AreOnce, AreTaken, entry_wants, log_wants, numbers_wanted, taken_from}
 use Rattle.nv_cell.specs.Numbers.{part_base}
 use Rattle.nv_cell.proofs.FilledSlots.{map_cut}
 

@@ -1,5 +1,5 @@
 -- How the check of a call ends it, over its lent cells as in the machine.
-use Rattle.std.proofs.Common.{◌≡◌, ℕ, ◌*◌, ◌/◌, ◌%◌, ◌<◌, ◌≤◌, ◌==◌, ◌&&◌, ◌||◌, ◌∙◌, not, nat_lt, Bool, true, false, cond, List, [], ◌∷◌, length, Option, Some, None, arith, refl, ap, ap₂, sym, subst}
+use Rattle.std.proofs.Common.{◌≡◌, ℕ, ◌*◌, ◌/◌, ◌%◌, ◌<◌, ◌≤◌, ◌==◌, ◌&&◌, ◌||◌, ◌∙◌, not, nat_lt, Bool, true, false, cond, List, [], ◌∷◌, length, Option, None, arith, refl, ap, ap₂, sym, subst}
 use Rattle.std.specs.Prelude.{Ok, Err, is_some}
 use Rattle.std.proofs.Math.Nat.{mul-le-mul_right}
 use Rattle.std.proofs.lemmas.Bool.{eq-eqb, ltb-false}

@@ -1,8 +1,8 @@
 -- A slot whose lock nobody has keeps the blocks of all its parts: none is killed, and none is past the tail.
-use Rattle.std.proofs.Common.{◌≡◌, ◌∙◌, ℕ, zero, suc, ◌+◌, ◌<◌, ◌≤◌, Bool, true, false, cond, List, [], ◌∷◌, Option, Some, None, ap, arith, if◌then◌else◌, length, nat_lt, refl, subst, sym, take}
+use Rattle.std.proofs.Common.{◌≡◌, ◌∙◌, ℕ, zero, suc, ◌+◌, ◌<◌, ◌≤◌, Bool, true, false, cond, List, [], ◌∷◌, Option, Some, None, ap, arith, if◌then◌else◌, length, refl, subst, sym}
 use Rattle.std.specs.Prelude.{◌&&◌, is_some, option_map, slice_index_or}
-use Rattle.std.proofs.lemmas.Bool.{false≢true, ltb-false, ltb-true, true≢false}
-use Rattle.std.proofs.lemmas.List.{get_or_past, take_all}
+use Rattle.std.proofs.lemmas.Bool.{false≢true, true≢false}
+use Rattle.std.proofs.lemmas.List.{take_all}
 use Rattle.std.proofs.lemmas.List.Sums.{sum_by-cons}
 use Rattle.nv_alloc.specs.Block.{BlockValue, number_of}
 use Rattle.nv_alloc.specs.Numbers.{has}
@@ -15,7 +15,6 @@ use Rattle.nv_cell.specs.declared.killed.KilledPart.{KilledPart}
 use Rattle.nv_cell.specs.declared.mark.Mark.{Mark}
 use Rattle.nv_cell.specs.declared.mark.Mark.TheVariants.{Current, Kept, Killed, Out}
 use Rattle.nv_entry.specs.Covered.{part_total}
-use Rattle.nv_entry.specs.declared.item.Entry.{Entry}
 use Rattle.nv_machine.specs.Held.{killed_by_actor, killed_by_call, killed_in, killed_slots}
 use Rattle.nv_machine.specs.Locks.{AreLocks, held_at, held_by, is_owner}
 use Rattle.nv_machine.specs.Reads.{is_written, written_slots}
@@ -32,7 +31,7 @@ use Rattle.nv_machine.proofs.MarksInUse.{same_default}
 use Rattle.nv_machine.proofs.PartsFor.{none_of, none_there}
 use Rattle.nv_machine.proofs.WorldFacts.{are_cells, have_marks}
 use Rattle.nv_core.proofs.Kept.{length_births}
-use Rattle.nv_core.specs.Reports.{KeepsUnlocked, births, is_part_kept, kept_among, kept_in, one_of}
+use Rattle.nv_core.specs.Reports.{KeepsUnlocked, births, is_part_kept, kept_among, one_of}
 use Rattle.nv_core.specs.Shown.{shared_of}
 use Rattle.nv_core.specs.Worlds.{IsWorld, WorldState}
 

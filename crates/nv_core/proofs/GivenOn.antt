@@ -1,9 +1,6 @@
 -- What the laws of the machine have to say of the steps of calls on snapshots.
-use Rattle.std.proofs.Common.{◌≡◌, ◌<◌, ℕ, false, true, Some, None}
-use Rattle.std.specs.Prelude.{slice_index_or}
-use Rattle.std.specs.List.{AllByRecursion}
+use Rattle.std.proofs.Common.{◌≡◌, ◌<◌, ℕ, false, true, Some}
 use Rattle.std.specs.Option.{ForSome, IsSomeAnd}
-use Rattle.nv_alloc.specs.Block.{BlockValue}
 use Rattle.nv_base.specs.declared.geometry.GeometryNumbers.{GeometryNumbers}
 use Rattle.nv_base.specs.declared.limits.TheConstants.{NUMBER, PINS}
 use Rattle.nv_book.specs.declared.record.Record.{Record}

@@ -1,11 +1,10 @@
 -- Blocks that go home to one list, as the machine's.
-use Rattle.std.proofs.Common.{◌≡◌, ℕ, zero, suc, ◌+◌, ◌<◌, ◌≤◌, ◌∙◌, ◌++◌, Bool, true, false, List, [], ◌∷◌, ap, arith, if◌then◌else◌, length, refl, subst, sym}
+use Rattle.std.proofs.Common.{◌≡◌, ℕ, zero, suc, ◌+◌, ◌<◌, ◌≤◌, ◌∙◌, ◌++◌, List, [], ◌∷◌, ap, arith, if◌then◌else◌, length, refl, subst, sym}
 use Rattle.std.specs.Prelude.{slice_index_or, slice_set}
-use Rattle.std.specs.List.{AllByRecursion}
 use Rattle.std.proofs.lemmas.List.{length-set}
 use Rattle.nv_alloc.specs.Block.{AreSized, BlockValue, numbers_of}
 use Rattle.nv_alloc.specs.FreeList.{FreeBlocks}
-use Rattle.nv_alloc.specs.Giving.{after_giving, after_offer, not_taken, takes}
+use Rattle.nv_alloc.specs.Giving.{after_giving, not_taken}
 use Rattle.nv_alloc.specs.Numbers.{times}
 use Rattle.nv_alloc.proofs.GivingLemmas.{kept_of-append}
 use Rattle.nv_base.specs.declared.geometry.GeometryNumbers.{GeometryNumbers}

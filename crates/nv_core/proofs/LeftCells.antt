@@ -1,15 +1,15 @@
 -- A cell that is taken apart when the machine stops: what is not published goes home, the rest is its slot.
 use Rattle.std.proofs.Common.{◌≡◌, ◌∙◌, ℕ, ◌+◌, ◌<◌, ◌≤◌, ◌||◌, ◌++◌, Bool, true, false, List, Some, ap, ap₂, arith, length, map, subst, sym, take, refl}
 use Rattle.std.proofs.lemmas.Bool.{true≢false}
-use Rattle.nv_alloc.specs.Block.{AreSized, BlockValue, block_by, numbers_of, zero_block, zeroed}
+use Rattle.nv_alloc.specs.Block.{AreSized, BlockValue, block_by, numbers_of, zeroed}
 use Rattle.nv_alloc.specs.FreeList.{FreeBlocks}
 use Rattle.nv_alloc.specs.Numbers.{has, times}
 use Rattle.nv_alloc.proofs.Lists.{has-times}
-use Rattle.nv_audit.specs.Image.{ImageValue, SlotImageValue, image_numbers, slot_numbers, slot_of}
+use Rattle.nv_audit.specs.Image.{ImageValue, SlotImageValue, slot_numbers, slot_of}
 use Rattle.nv_cell.specs.Cell.{CellState, CellValue, IsCell, log_of, stored_in}
 use Rattle.nv_cell.specs.Slots.{by_part, slot_total}
 use Rattle.nv_cell.specs.declared.bare.BareCell.{BareCell}
-use Rattle.nv_mount.specs.Build.{AreFree, AreGivenHome, CanAllGoHome, IsApart, IsSlotLeft, used_by}
+use Rattle.nv_mount.specs.Build.{AreGivenHome, CanAllGoHome, IsSlotLeft, used_by}
 use Rattle.nv_mount.specs.View.{SlotViewValue, ViewValue, slot_in}
 use Rattle.nv_mount.proofs.Free.{ComeNow, can_give, given_free}
 use Rattle.nv_mount.proofs.Marked.{has-append, or_left, or_right, stands}

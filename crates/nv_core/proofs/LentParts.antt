@@ -12,7 +12,7 @@ use Rattle.nv_machine.specs.Reads.{home_from, pages_wanted, plan_by}
 use Rattle.nv_machine.specs.Step.{kind_turn, turn}
 use Rattle.nv_machine.specs.World as machine
 use Rattle.nv_machine.specs.World.{HandState, Moves, cell_at, list_at, no_cell, no_list, with_list}
-use Rattle.nv_steps.specs.OnList.{HaveSameHomes, IsPlanned, on_list, once_planned}
+use Rattle.nv_steps.specs.OnList.{HaveSameHomes, IsPlanned, on_list}
 use Rattle.nv_steps.specs.Parts.{CellIs, Has, IsOf, Part}
 use Rattle.nv_steps.specs.Turns.{IsMove}
 use Rattle.nv_steps.proofs.BookTurns.{by_next}

@@ -1,13 +1,11 @@
 -- What a turn that reads one cell, while nobody has its lock, makes in a world.
-use Rattle.std.proofs.Common.{◌≡◌, ◌∙◌, ℕ, ◌<◌, ◌≤◌, ◌||◌, Bool, true, false, List, [], length, Option, Some, None, ap, arith, inl, inr, not, refl, subst, sym}
+use Rattle.std.proofs.Common.{◌≡◌, ◌∙◌, ℕ, ◌<◌, ◌≤◌, ◌||◌, Bool, true, false, [], length, Option, Some, None, ap, arith, inl, inr, subst, sym}
 use Rattle.std.specs.Prelude.{MatchOption, Result, Ok, Err, is_ok}
 use Rattle.std.specs.Option.{ForSome}
 use Rattle.std.proofs.lemmas.List.{length-map}
 use Rattle.nv_base.specs.declared.fault.Fault.{Fault}
 use Rattle.nv_calls.specs.declared.answer.Answer.{Answer}
 use Rattle.nv_cell.specs.Cell.{CellState, CellValue}
-use Rattle.nv_entry.specs.declared.node.NodeCopy.{NodeCopy}
-use Rattle.nv_machine.specs.Reads.{bytes_among}
 use Rattle.nv_machine.specs.SnapshotOrCleaner.{copies_at, show_turn}
 use Rattle.nv_machine.specs.Step.{kind_turn}
 use Rattle.nv_machine.specs.World as machine

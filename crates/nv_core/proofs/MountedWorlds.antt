@@ -1,8 +1,7 @@
 -- The world that a mount makes of an image without a fault, as one at rest.
-use Rattle.std.proofs.Common.{◌≡◌, ◌∙◌, ℕ, List, None, ap, ap₂, arith, length, refl, replicate, subst, sym}
+use Rattle.std.proofs.Common.{◌≡◌, ◌∙◌, ℕ, List, None, ap, length, refl, replicate, subst, sym}
 use Rattle.std.proofs.lemmas.List.{length-map}
 use Rattle.std.proofs.lemmas.List.FromFn.{length-map-range_with_len}
-use Rattle.nv_alloc.specs.FreeList.{FreeBlocks}
 use Rattle.nv_audit.specs.Faults.{FitsGeometry, IsFaultless}
 use Rattle.nv_audit.specs.Image.{ImageValue}
 use Rattle.nv_audit.specs.Mounted.{book_anew, cell_of, cells_of, lists_anew, pool_anew, records_anew}
@@ -10,7 +9,6 @@ use Rattle.nv_audit.specs.Records.{states_of}
 use Rattle.nv_base.specs.Limits.{IsWithinLimits}
 use Rattle.nv_base.specs.declared.fault.ImageFault.TheVariants as fault
 use Rattle.nv_base.specs.declared.geometry.GeometryNumbers.{GeometryNumbers}
-use Rattle.nv_book.specs.declared.record.Record.{Record}
 use Rattle.nv_cell.specs.Cell.{CellState, CellValue}
 use Rattle.nv_machine.specs.Starts.{IsStart}
 use Rattle.nv_machine.specs.World as machine

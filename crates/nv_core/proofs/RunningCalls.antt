@@ -1,5 +1,5 @@
 -- The call that an actor runs by name is that of the machine's.
-use Rattle.std.proofs.Common.{◌≡◌, ◌∙◌, ℕ, ◌<◌, List, Option, Some, None, ap, length, refl, subst, sym}
+use Rattle.std.proofs.Common.{◌≡◌, ◌∙◌, ℕ, ◌<◌, Option, Some, None, ap, length, refl, subst, sym}
 use Rattle.std.specs.Prelude.{option_map, slice_index_or}
 use Rattle.nv_machine.specs.World as machine
 use Rattle.nv_machine.specs.World.{actor_at}

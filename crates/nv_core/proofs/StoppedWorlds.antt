@@ -1,41 +1,39 @@
 -- A world whose machine stops: its image, its blocks, and the world that goes on from there.
-use Rattle.std.proofs.Common.{◌≡◌, ◌∙◌, ℕ, zero, suc, ◌+◌, ◌<◌, ◌≤◌, ◌==◌, ◌||◌, ◌++◌, inl, inr, Bool, true, false, cond, nat_lt, List, [], ◌∷◌, Option, None, Some, ap, ap₂, arith, flat_map, length, map, refl, replicate, subst, sym}
+use Rattle.std.proofs.Common.{◌≡◌, ◌∙◌, ℕ, suc, ◌+◌, ◌<◌, ◌≤◌, ◌==◌, ◌||◌, ◌++◌, inl, inr, Bool, true, false, cond, nat_lt, List, [], ◌∷◌, Option, None, Some, ap, ap₂, arith, flat_map, length, map, refl, subst, sym}
 use Rattle.std.specs.Prelude.{slice_index_or}
 use Rattle.std.specs.List.{AllByRecursion}
 use Rattle.std.specs.Option.{option_map, option_or}
 use Rattle.std.proofs.Math.ListN.{get_or-map as get_or-mapped}
 use Rattle.std.proofs.lemmas.Bool.{cases_lt, eqb-true, false≢true, le-ltb, lt-ltb}
-use Rattle.std.proofs.lemmas.List.{get_or-map, length-map, length-replicate}
+use Rattle.std.proofs.lemmas.List.{get_or-map, length-map}
 use Rattle.nv_alloc.specs.Block.{AreSized, BlockValue, block_by, numbers_of, zero_block, zeroed}
-use Rattle.nv_alloc.specs.FreeList.{AreListsOf, FreeBlocks, IsFreeList, IsHomeList, free_blocks, no_list}
+use Rattle.nv_alloc.specs.FreeList.{AreListsOf, FreeBlocks, IsHomeList, free_blocks, no_list}
 use Rattle.nv_alloc.specs.Hand.{blocks_of}
-use Rattle.nv_alloc.specs.Numbers.{IsEachOnce, IsRising, has, times}
+use Rattle.nv_alloc.specs.Numbers.{IsRising, has, times}
 use Rattle.nv_alloc.proofs.AllLists.{either_by, none_by}
 use Rattle.nv_alloc.proofs.Lists.{has-first, has-times, times-append, times-cons}
 use Rattle.nv_audit.specs.Faults.{FitsGeometry, IsFaultless}
-use Rattle.nv_audit.specs.Image.{ImageValue, SlotImageValue, image_numbers, no_slot, slot_numbers, slot_of}
+use Rattle.nv_audit.specs.Image.{ImageValue, SlotImageValue, image_numbers, no_slot, slot_of}
 use Rattle.nv_audit.specs.Mounted.{free_block, records_anew}
 use Rattle.nv_audit.specs.Records.{states_of}
 use Rattle.nv_base.specs.declared.fault.ImageFault.TheVariants as fault
 use Rattle.nv_base.specs.declared.geometry.Geometry.{Geometry}
 use Rattle.nv_base.specs.declared.geometry.GeometryNumbers.{GeometryNumbers}
-use Rattle.nv_book.specs.declared.record.Record.{Record}
 use Rattle.nv_cell.specs.Cell.{CellState, CellValue, no_room, stored_in}
 use Rattle.nv_log.specs.Chain.{ChainState}
 use Rattle.nv_log.specs.Image.{chain_of}
 use Rattle.nv_machine.specs.Hands.{AreLists, AreNumbers}
 use Rattle.nv_machine.specs.Kinds.{blocks_in}
-use Rattle.nv_machine.specs.Numbers.{all_blocks, free_of, held_by_actor, used_blocks}
+use Rattle.nv_machine.specs.Numbers.{free_of, held_by_actor, used_blocks}
 use Rattle.nv_machine.specs.Starts.{IsStart}
 use Rattle.nv_machine.specs.Step.{after}
 use Rattle.nv_machine.specs.World as machine
-use Rattle.nv_machine.specs.World.{actor_at, cell_at, idle, no_cell}
+use Rattle.nv_machine.specs.World.{cell_at, idle, no_cell}
 use Rattle.nv_machine.proofs.EachElement.{all_append}
 use Rattle.nv_machine.proofs.EveryWorld.{all_whole, reached}
 use Rattle.nv_machine.proofs.FromScratch.{counted, not_counted}
 use Rattle.nv_machine.proofs.WorldFacts.{logs_paged}
 use Rattle.nv_machine.proofs.WorldSizes.{of_numbers}
-use Rattle.nv_machine.specs.Recorded.{records_after}
 use Rattle.nv_mount.specs.Build.{AreFree, AreGivenHome, CanAllGoHome, block_at_home}
 use Rattle.nv_mount.specs.View.{IsSeen, IsSlotSeen, SlotViewValue, nothing, slot_in}
 use Rattle.nv_mount.proofs.Marked.{numbers_append}

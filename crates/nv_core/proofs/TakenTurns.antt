@@ -15,7 +15,7 @@ use Rattle.nv_steps.specs.declared.lists.Taken.{Taken}
 use Rattle.nv_steps.specs.declared.lists.Taken.TheVariants as taken
 use Rattle.nv_steps.proofs.ListTurns.{refused_moves}
 use Rattle.nv_core.specs.Parts.{AreHome}
-use Rattle.nv_core.specs.Shown.{ShownCall, hand_of, next_of, shared_of, shown}
+use Rattle.nv_core.specs.Shown.{hand_of, shared_of}
 use Rattle.nv_core.specs.Takings.{IsTaken}
 use Rattle.nv_core.specs.declared.next.Next.{Next}
 use Rattle.nv_core.specs.declared.next.Next.TheVariants as next

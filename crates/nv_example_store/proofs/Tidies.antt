@@ -1,5 +1,5 @@
 -- A tidying of a store: a drain, and a cleaning of the log of the root.
-use Rattle.std.proofs.Common.{◌≡◌, ◌∙◌, ◌*◌, ◌<◌, ◌≤◌, ◌⊎◌, ℕ, Bool, true, false, List, [], Result, Ok, Err, ap, ap₂, arith, inl, inr, length, map, refl, subst, sym}
+use Rattle.std.proofs.Common.{◌≡◌, ◌∙◌, ◌*◌, ◌<◌, ◌≤◌, ◌⊎◌, ℕ, Bool, true, false, [], Ok, Err, ap, ap₂, arith, inl, inr, length, map, refl, subst, sym}
 use Rattle.std.specs.Prelude.{if◌then◌else◌, max, min, nat_le, nat_lt}
 use Rattle.std.specs.List.{AllByRecursion}
 use Rattle.std.proofs.lemmas.Bool.{true≢false}
@@ -35,7 +35,7 @@ use Rattle.nv_files.proofs.Standing.{files_sound}
 use Rattle.nv_example_store.specs.Faults.{IsTidyCause}
 use Rattle.nv_example_store.specs.Held.{SameStore, TidiesBy}
 use Rattle.nv_example_store.specs.Stored.{HoldFiles, HoldsStore, Steps, value_in}
-use Rattle.nv_example_store.specs.Tidied.{IsTidied, after, drained}
+use Rattle.nv_example_store.specs.Tidied.{after, drained}
 use Rattle.nv_example_store.proofs.Puts.{root_of}
 use Rattle.nv_example_store.proofs.StoreSteps.{world_after}
 

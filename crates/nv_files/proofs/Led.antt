@@ -10,13 +10,11 @@ use Rattle.nv_base.specs.declared.fault.Fault.TheVariants as fault
 use Rattle.nv_base.specs.declared.node.Kind.{Kind}
 use Rattle.nv_base.specs.declared.node.Kind.TheVariants.{Dir, File}
 use Rattle.nv_base.specs.declared.numbers.Handle.{Handle}
-use Rattle.nv_calls.specs.Refusals.{Check, and_find, kind_of, look, lookup, passes, refuse_if, want_bound, want_directory, want_lawful}
-use Rattle.nv_calls.specs.calls.Lookup.{lookup_refusal}
+use Rattle.nv_calls.specs.Refusals.{Check, and_find, kind_of, look, lookup, passes, refuse_if, want_bound, want_directory}
 use Rattle.nv_calls.specs.declared.answer.Answer.TheVariants as answers
 use Rattle.nv_calls.specs.declared.call.Call.TheVariants as call
 use Rattle.nv_core.specs.Worlds.{WorldState}
 use Rattle.nv_entry.specs.Tree.{root}
-use Rattle.nv_entry.specs.declared.node.NodeCopy.{NodeCopy}
 use Rattle.nv_serial.specs.OneCall.{serial_call}
 use Rattle.nv_serial.specs.Serial.{Serial, copies_now, refused, told}
 use Rattle.nv_effects.specs.Causes.{IsCause}

@@ -1,6 +1,6 @@
 -- What a step refuses its call for, the plain world says too, on the settled nodes.
 use Rattle.nv_book.specs.declared.record.Record.{Record}
-use Rattle.std.proofs.Common.{Bool, List, None, Option, Some, [], false, refl, subst, suc, sym, zero, ℕ, ◌∙◌, ◌≡◌}
+use Rattle.std.proofs.Common.{Bool, List, None, Option, Some, [], refl, subst, suc, sym, zero, ℕ, ◌∙◌, ◌≡◌}
 use Rattle.std.specs.Prelude.{Err}
 use Rattle.nv_base.specs.declared.fault.Fault.{Fault}
 use Rattle.nv_base.specs.declared.geometry.GeometryNumbers.{GeometryNumbers}

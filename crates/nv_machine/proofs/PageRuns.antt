@@ -8,7 +8,6 @@ use Rattle.nv_base.specs.Limits.{IsWithinLimits}
 use Rattle.nv_base.specs.declared.geometry.GeometryNumbers.{GeometryNumbers}
 use Rattle.nv_base.specs.declared.numbers.Handle.{Handle}
 use Rattle.nv_calls.specs.AllCalls.{plan}
-use Rattle.nv_calls.specs.Plain.{node_in}
 use Rattle.nv_cell.specs.Readers.{is_erased}
 use Rattle.nv_calls.specs.Slots.{InodeSlot, entries_of, items_for, place_in}
 use Rattle.nv_cell.specs.Cell.{CellState, IsCell, log_of}

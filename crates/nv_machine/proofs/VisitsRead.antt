@@ -1,5 +1,5 @@
 -- What a visit reads is settled.
-use Rattle.std.proofs.Common.{Bool, List, None, Some, [], ap, cond, false, length, nat_lt, refl, subst, sym, take, ℕ, ◌<◌, ◌==◌, ◌∙◌, ◌≡◌}
+use Rattle.std.proofs.Common.{Bool, List, None, Some, [], ap, cond, length, nat_lt, refl, subst, sym, take, ℕ, ◌<◌, ◌==◌, ◌∙◌, ◌≡◌}
 use Rattle.std.proofs.Math.Seq.{take-length}
 use Rattle.std.proofs.lemmas.Bool.{lt-ltb}
 use Rattle.std.specs.Prelude.{Err, Ok, Result}

@@ -14,7 +14,7 @@ use Rattle.nv_machine.specs.Hands.{is_going}
 use Rattle.nv_machine.specs.Kinds.{check_ending}
 use Rattle.nv_machine.specs.Reads.{written_slots}
 use Rattle.nv_machine.specs.Sequence as sequence
-use Rattle.nv_machine.specs.Sequence.{Beginning, appending, beginning, begun, locking, looking, nothing_looked, publishing, retiring}
+use Rattle.nv_machine.specs.Sequence.{Beginning, appending, beginning, locking, looking, publishing, retiring}
 use Rattle.nv_machine.specs.Step.{ending_at, is_numbered, kind_turn, made_in, with_made}
 use Rattle.nv_machine.specs.World.{Answers, Append, Check, Close, Ending, Enter, Give, HandState, Leave, Lock, Look, SnapshotOrCleaner, Next, Number, Open, BoundAnew, Publish, Ready, Refuses, Retire, ReturnNumber, Running, Shared, TakeBlocks, TakeLogPages, Turn, Unlock, Visit, go_to, no_cell}
 use Rattle.nv_machine.proofs.LoopSteps.{Commits, appending_any, is_on_files, locking_any, looking_any, publishing_any, retiring_any}

@@ -1,6 +1,5 @@
 -- A value that no shared reference reaches crosses threads as the value does.
 use mathlib.Core.List.{[], ◌∷◌}
-use base.Shift.{Keyless}
 use denote.Exit.{Exit, hidden, leaves, pair, unchanged, under}
 use denote.RattleType.{Denots, RattleType}
 use denote.Struct.Values.{intos}

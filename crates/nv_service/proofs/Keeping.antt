@@ -1,5 +1,5 @@
 -- A hand that is not empty keeps a block or a number.
-use Rattle.std.proofs.Common.{◌≡◌, ◌<◌, ℕ, zero, suc, true, false, Option, Some, None, List, arith, length, refl}
+use Rattle.std.proofs.Common.{◌≡◌, ◌<◌, ℕ, zero, suc, true, Option, Some, None, List, arith, length, refl}
 use Rattle.std.specs.Prelude.{◌↔◌, IfErr, IsOk, OnErr, OnOk, Result, Ok, Err, is_some}
 use Rattle.std.specs.Option.{ForSome}
 use Rattle.std.proofs.lemmas.Bool.{false≢true}

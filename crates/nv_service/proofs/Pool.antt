@@ -1,5 +1,5 @@
 -- What the return of a number leaves of the pool.
-use Rattle.std.proofs.Common.{◌≡◌, ◌∙◌, ℕ, ◌<◌, Bool, true, false, [], ◌∷◌, Option, Some, None, ap, refl, subst, sym}
+use Rattle.std.proofs.Common.{◌≡◌, ◌∙◌, ℕ, ◌<◌, true, [], ◌∷◌, Option, Some, None, ap, refl, subst, sym}
 use Rattle.nv_alloc.specs.InodePool.{FreeInodes}
 use Rattle.nv_alloc.specs.Numbers.{put_by}
 use Rattle.nv_base.specs.declared.geometry.GeometryNumbers.{GeometryNumbers}

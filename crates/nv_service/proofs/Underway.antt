@@ -8,17 +8,16 @@ use Rattle.nv_alloc.specs.FreeList.{FreeBlocks}
 use Rattle.nv_alloc.specs.InodePool.{FreeInodes}
 use Rattle.nv_base.specs.declared.fault.Fault.{Fault}
 use Rattle.nv_base.specs.declared.geometry.GeometryNumbers.{GeometryNumbers}
-use Rattle.nv_calls.specs.declared.answer.Answer.{Answer}
 use Rattle.nv_cell.specs.Cell.{CellState}
-use Rattle.nv_machine.specs.Kinds.{blocks_in, last_turn, over_turn, rest_turn, unlock_turn, unlocked_turn}
+use Rattle.nv_machine.specs.Kinds.{blocks_in, over_turn, rest_turn, unlocked_turn}
 use Rattle.nv_machine.specs.Reads.{home_from, slot_at}
 use Rattle.nv_machine.specs.Step.{turn}
 use Rattle.nv_machine.specs.World.{Answers, BoundAnew, Cleans, Drains, Ending, Give, HandState, Moves, Refuses, ReturnNumber, Running, Shared, Unlock, go_to, with_owner}
 use Rattle.nv_steps.specs.LastSteps.{IsLast}
 use Rattle.nv_steps.specs.OnList.{HasNumber, IsGive, home_left, on_list}
 use Rattle.nv_steps.specs.OnPool.{on_pool}
-use Rattle.nv_steps.specs.Parts.{Has, IsAtHome, IsOf, IsPartOf, IsThere, ListIs, OwnerIs, Part, PoolIs, with_parts}
-use Rattle.nv_steps.specs.Runs.{IsOwn, Known, LeftAs, Unheld, Unseen, known_cell, locked}
+use Rattle.nv_steps.specs.Parts.{Has, IsAtHome, IsOf, ListIs, OwnerIs, PoolIs, with_parts}
+use Rattle.nv_steps.specs.Runs.{IsOwn, Known, LeftAs, Unheld, Unseen, known_cell}
 use Rattle.nv_steps.specs.Turns.{Made}
 use Rattle.nv_steps.specs.declared.lists.LeftInHand.{LeftInHand}
 use Rattle.nv_steps.specs.declared.lists.LeftInHand.TheVariants as left_in

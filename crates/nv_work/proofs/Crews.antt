@@ -1,5 +1,5 @@
 -- Lists of jobs, of the calls of threads, and of texts.
-use Rattle.std.proofs.Common.{◌≡◌, ◌≢◌, ◌⊎◌, inl, inr, ◌==◌, ◌∙◌, zero, suc, ℕ, ◌+◌, ◌<◌, ◌%◌, Bool, true, false, cond, List, [], ◌∷◌, ◌++◌, length, get_or, set, map, filter, drop, take, slice_index_or, Result, Ok, Err, refl, sym, ap, subst, append-nil, append_assoc, arith}
+use Rattle.std.proofs.Common.{◌≡◌, ◌≢◌, ◌⊎◌, inl, inr, ◌==◌, ◌∙◌, zero, suc, ℕ, ◌+◌, ◌<◌, ◌%◌, Bool, true, false, cond, List, [], ◌∷◌, ◌++◌, length, get_or, set, map, drop, take, Result, Ok, Err, refl, sym, ap, subst, append-nil, append_assoc, arith}
 use Rattle.std.proofs.lemmas.Grind.{flat_map-append}
 use Rattle.std.proofs.Math.Nat.{mod-lt}
 use Rattle.std.proofs.Math.Seq.{take-append_seam}
@@ -9,8 +9,8 @@ use Rattle.std.proofs.lemmas.List.FromFn.{get_or-map-range_with_len, length-enum
 use Rattle.std.proofs.lemmas.Bool.{eq-eqb, ne_eqb}
 use Rattle.std.proofs.lemmas.Bool.Decides.{eqb_tells}
 use Rattle.std.proofs.lemmas.Slice.Zip.{all_zipped_more}
-use Rattle.std.specs.Fork.{ChangesEach, GivesJob, GivesJobs}
-use Rattle.std.specs.List.{AllZip, enumerate_from, flat_map, range_with_len, zip}
+use Rattle.std.specs.Fork.{ChangesEach, GivesJobs}
+use Rattle.std.specs.List.{AllZip, enumerate_from, flat_map, zip}
 use Rattle.std.specs.Prelude.{IfOk, OnErr}
 use denote.Param.Members.{Shared}
 use denote.Ref.{MutBor}

@@ -1,7 +1,6 @@
-use Rattle.std.proofs.Common.{◌≡◌, Some, None, ap, refl, sym, ◌∙◌, subst}
+use Rattle.std.proofs.Common.{◌≡◌, Some, None, ap, sym, ◌∙◌, subst}
 use Rattle.std.proofs.lemmas.Option.{same_Some}
 use Rattle.nv_cell.proofs.ValuesNow.{IsLog-take}
-use Rattle.nv_entry.specs.declared.held.Pair.{Pair}
 use Rattle.nv_cell.specs.Cell.{log_of}
 use Rattle.nv_entry.specs.Log.{IsLog}
 use Rattle.nv_epoch.specs.SnapList.{ids}

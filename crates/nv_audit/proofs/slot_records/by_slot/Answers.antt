@@ -1,4 +1,4 @@
-use Rattle.std.proofs.Common.{◌≡◌, ℕ, ◌+◌, ◌++◌, ◌<◌, List, [], ◌∷◌, length, take, get_or, slice_set, arith, ap, sym, ◌∙◌, subst}
+use Rattle.std.proofs.Common.{◌≡◌, ℕ, ◌+◌, ◌++◌, ◌<◌, List, [], ◌∷◌, length, take, slice_set, arith, ap, sym, ◌∙◌, subst}
 use Rattle.nv_book.specs.declared.record.Record.{Record}
 use Rattle.nv_audit.specs.KeptParts.{AreBySlot, list_at}
 use Rattle.nv_audit.proofs.SlotRecords.{list_here, slot_more}

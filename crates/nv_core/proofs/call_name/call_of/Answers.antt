@@ -1,6 +1,6 @@
-use Rattle.std.proofs.Common.{◌≡◌, ◌∙◌, Some, ap, subst, sym}
+use Rattle.std.proofs.Common.{◌≡◌, ◌∙◌, Some, ap, subst}
 use Rattle.nv_core.specs.GhostCalls.{IsShownCallOf}
-use Rattle.nv_core.specs.Worlds.{ShowsCall, shown_call_of}
+use Rattle.nv_core.specs.Worlds.{shown_call_of}
 use Rattle.nv_core.specs.declared.running.Running.{Running}
 use Rattle.nv_core.proofs.call_name.call_of.Goals as goal
 

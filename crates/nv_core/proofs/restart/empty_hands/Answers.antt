@@ -1,5 +1,4 @@
-use Rattle.std.proofs.Common.{◌≡◌, ◌∙◌, ◌+◌, ◌<◌, ◌++◌, List, ◌∷◌, ap, ap₂, arith, drop, flat_map, length, replicate, slice_set, subst, sym}
-use Rattle.nv_alloc.specs.Block.{BlockValue}
+use Rattle.std.proofs.Common.{◌≡◌, ◌∙◌, ◌+◌, ◌<◌, ◌++◌, List, ◌∷◌, ap, ap₂, arith, drop, flat_map, replicate, slice_set, subst, sym}
 use Rattle.nv_alloc.specs.Hand.{blocks_of}
 use Rattle.nv_alloc.specs.declared.hand.Hand.{Hand}
 use Rattle.nv_mount.specs.Build.{AreGivenHome, CanAllGoHome}

@@ -1,4 +1,4 @@
-use Rattle.std.proofs.Common.{◌≡◌, ◌++◌, drop, flat_map, length, replicate}
+use Rattle.std.proofs.Common.{◌≡◌, ◌++◌, drop, flat_map, replicate}
 use Rattle.nv_mount.proofs.GoingHome.{IsGoing}
 use Rattle.nv_core.specs.Formats.{idle_actor}
 use Rattle.nv_core.specs.Restarts.{held}

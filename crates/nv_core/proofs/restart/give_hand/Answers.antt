@@ -1,4 +1,4 @@
-use Rattle.std.proofs.Common.{◌≡◌, ◌∙◌, ◌++◌, List, ap, append_assoc, subst, sym}
+use Rattle.std.proofs.Common.{◌≡◌, ◌∙◌, ◌++◌, List, append_assoc, subst, sym}
 use Rattle.nv_alloc.specs.Block.{BlockValue}
 use Rattle.nv_mount.specs.Build.{AreGivenHome, CanAllGoHome}
 use Rattle.nv_core.proofs.GoingSeveral.{can_first, can_then, gone_both}

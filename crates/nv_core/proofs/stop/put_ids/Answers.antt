@@ -1,6 +1,6 @@
-use Rattle.std.proofs.Common.{◌≡◌, ◌∙◌, ℕ, ◌+◌, ◌++◌, length, List, [], ◌∷◌, ap, arith, map, sym, take}
+use Rattle.std.proofs.Common.{◌≡◌, ◌∙◌, ℕ, ◌+◌, ◌++◌, length, List, [], ◌∷◌, ap, arith, sym, take}
 use Rattle.std.proofs.lemmas.List.{append-nil, append_assoc, length-map, map-append, take_all, take_more}
-use Rattle.nv_epoch.specs.SnapList.{Snapshots, ids, numbers}
+use Rattle.nv_epoch.specs.SnapList.{numbers}
 use Rattle.nv_epoch.specs.declared.snapshot.Snapshot.{Snapshot}
 use Rattle.nv_core.proofs.stop.put_ids.Goals as goal
 

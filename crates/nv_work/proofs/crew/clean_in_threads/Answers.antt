@@ -1,4 +1,4 @@
-use Rattle.std.proofs.Common.{◌≡◌, ◌∙◌, ap, arith, map, rules, sym, subst, List, ℕ, length}
+use Rattle.std.proofs.Common.{◌≡◌, ◌∙◌, ap, map, rules, ℕ}
 use Rattle.nv_service.specs.Sessions.{SessionValue}
 use Rattle.nv_work.proofs.Crews.{kept_each, put_back}
 use Rattle.nv_work.proofs.crew.clean_in_threads.Goals as goal

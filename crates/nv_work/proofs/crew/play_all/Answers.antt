@@ -1,4 +1,4 @@
-use Rattle.std.proofs.Common.{rules, arith}
+use Rattle.std.proofs.Common.{rules}
 use Rattle.nv_work.proofs.Crews.{all_zip-maps, all_zip-same, both_ok, of_jobs}
 use Rattle.nv_work.proofs.crew.play_all.Goals as goal
 

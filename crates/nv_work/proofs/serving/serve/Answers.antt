@@ -1,5 +1,4 @@
 use Rattle.std.proofs.Common.{◌+◌, ◌++◌, ◌∙◌, ap, map, subst, sym, vec_len, ℕ}
-use Rattle.std.specs.List.{range_with_len}
 use Rattle.nv_service.specs.Seats.{AreSeats}
 use Rattle.nv_base.specs.declared.geometry.Geometry.{Geometry}
 use Rattle.nv_work.specs.Taken.{lists_of}

@@ -3,7 +3,7 @@ use Rattle.std.proofs.lemmas.Grind.{div_ceil_times}
 use Rattle.nv_alloc.specs.Block.{BlockValue}
 use Rattle.nv_entry.specs.Bytes.{read_at}
 use Rattle.nv_entry.specs.Keys.{pages_for}
-use Rattle.nv_entry.specs.Node.{file_bytes, size_now}
+use Rattle.nv_entry.specs.Node.{size_now}
 use Rattle.nv_cell.specs.Cell.{AreSlotsSized, CellValue, IsCell, log_of}
 use Rattle.nv_cell.specs.Fields.{state_in}
 use Rattle.nv_cell.specs.Pages.{AreBytesOf, own_bytes, pages_now}

@@ -4,7 +4,7 @@ use Rattle.nv_entry.specs.declared.item.Entry.{Entry}
 use Rattle.nv_entry.specs.Covered.{part_total}
 use Rattle.nv_entry.specs.Refs.{scan_ref}
 use Rattle.nv_nindex.specs.NameIndex.{HaveSameBindings}
-use Rattle.nv_cell.specs.Anew.{cell_by, marks_anew}
+use Rattle.nv_cell.specs.Anew.{cell_by}
 use Rattle.nv_cell.specs.Cell.{CellState, HasBlocks, HasMarks}
 use Rattle.nv_cell.specs.Index.{bindings_of}
 use Rattle.nv_cell.specs.Slots.{by_part}

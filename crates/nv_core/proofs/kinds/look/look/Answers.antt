@@ -1,6 +1,5 @@
-use Rattle.std.proofs.Common.{◌≡◌, ◌∙◌, ◌+◌, ℕ, None, ap, refl, subst, sym, true}
+use Rattle.std.proofs.Common.{◌≡◌, ◌∙◌, ◌+◌, None, ap, refl, subst, sym, true}
 use Rattle.std.specs.Prelude.{Err}
-use Rattle.std.proofs.lemmas.List.{length-map}
 use Rattle.nv_base.specs.declared.numbers.Handle.{Handle}
 use Rattle.nv_calls.specs.AllCalls.{look_refusal, looked}
 use Rattle.nv_calls.specs.Updates.{call_of}
@@ -13,9 +12,8 @@ use Rattle.nv_machine.specs.World as machine
 use Rattle.nv_machine.specs.World.{HandState, empty_hand, owner_at}
 use Rattle.nv_steps.specs.Reading.{once_looked}
 use Rattle.nv_steps.proofs.Looks.{IsCellOf}
-use Rattle.nv_core.specs.Shown.{hand_of, next_of, shared_of, shown, slots_in}
+use Rattle.nv_core.specs.Shown.{next_of, shared_of, shown, slots_in}
 use Rattle.nv_core.specs.GhostCalls.{looking_at}
-use Rattle.nv_core.specs.declared.shared.Shared.{Shared}
 use Rattle.nv_core.proofs.LentCells.{numbers_in}
 use Rattle.nv_core.proofs.LentReads.{IsThere, in_range, read_end, read_move}
 use Rattle.nv_core.proofs.Looks.{call_by, nobody}

@@ -1,8 +1,7 @@
-use Rattle.std.proofs.Common.{◌∙◌, ◌+◌, ◌%◌, ap, arith, length, refl, sym}
+use Rattle.std.proofs.Common.{◌∙◌, ◌+◌, ◌%◌, ap, arith, length, sym}
 use Rattle.nv_machine.specs.World.{list_at}
 use Rattle.nv_steps.specs.OnList.{DataBlocks}
 use Rattle.nv_core.specs.Shown.{hand_of, shared_of, shown, turn_of}
-use Rattle.nv_core.specs.declared.next.Next.{Next}
 use Rattle.nv_core.specs.Shown.{next_of}
 use Rattle.nv_core.specs.declared.shared.Shared.{Shared}
 use Rattle.nv_core.proofs.LentParts.{numbers_for}

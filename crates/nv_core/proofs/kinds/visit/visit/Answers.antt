@@ -1,9 +1,4 @@
-use Rattle.std.proofs.Common.{◌≡◌, ◌∙◌, None, ap, subst, sym}
-use Rattle.nv_base.specs.declared.numbers.Handle.{Handle}
-use Rattle.nv_calls.specs.Locked.{handles}
-use Rattle.nv_calls.specs.declared.call.Call.{Call}
-use Rattle.nv_machine.specs.Sequence.{nothing_looked}
-use Rattle.nv_machine.specs.Step.{handle_at}
+use Rattle.std.proofs.Common.{◌≡◌, ◌∙◌, ap, subst, sym}
 use Rattle.nv_core.specs.Shown.{next_of, shown}
 use Rattle.nv_core.specs.GhostCalls.{IsRequestOf}
 use Rattle.nv_core.specs.declared.request.Request.{Request}

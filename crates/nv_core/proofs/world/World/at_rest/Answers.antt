@@ -1,10 +1,9 @@
-use Rattle.std.proofs.Common.{◌≡◌, ◌∙◌, List, Option, None, ap, length, replicate, subst, sym, ℕ}
+use Rattle.std.proofs.Common.{◌≡◌, ◌∙◌, Option, ap, subst, sym, ℕ}
 use Rattle.std.specs.Global.{Vec}
 use Rattle.nv_base.specs.declared.geometry.GeometryNumbers.{GeometryNumbers}
 use Rattle.nv_core.proofs.FromParts.{rest_run, world_rest}
 use Rattle.nv_core.specs.AtRest.{at_rest}
 use Rattle.nv_core.specs.Stops.{HasImageRoom}
-use Rattle.nv_core.specs.Worlds.{IsWorldAfter}
 use Rattle.nv_core.specs.declared.parts.Parts.{Parts}
 use Rattle.nv_core.proofs.world.World.at_rest.Goals as goal
 

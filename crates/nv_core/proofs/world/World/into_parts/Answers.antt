@@ -1,6 +1,5 @@
 use Rattle.std.proofs.Common.{◌≡◌, ◌∙◌, ap, false, refl, subst, sym, true}
 use Rattle.std.specs.List.{list_any}
-use Rattle.nv_machine.specs.World as machine
 use Rattle.nv_audit.specs.AtRest.{IsOneBook}
 use Rattle.nv_core.proofs.AtRest.{busy, rests}
 use Rattle.nv_core.proofs.StartsAtRest.{rested}

@@ -1,12 +1,11 @@
-use Rattle.std.proofs.Common.{◌≡◌, ◌∙◌, ap, refl, subst, sym}
+use Rattle.std.proofs.Common.{◌≡◌, ◌∙◌, refl, subst, sym}
 use Rattle.nv_base.specs.declared.geometry.Geometry.{Geometry}
-use Rattle.nv_machine.specs.World as machine
 use Rattle.nv_restart.specs.Mounted.{mounted}
 use Rattle.nv_core.proofs.RestartedWorlds.{stop_run, world_goes_on}
 use Rattle.nv_core.proofs.StoppedWorlds.{hands_given, hands_go_home, world_owners, world_seen, world_stopped}
 use Rattle.nv_core.specs.Restarts.{IsPlanned, image_by}
 use Rattle.nv_core.specs.Stops.{HasImageRoom}
-use Rattle.nv_core.specs.Worlds.{IsWorldAfter, Shows, WorldState}
+use Rattle.nv_core.specs.Worlds.{Shows, WorldState}
 use Rattle.nv_core.proofs.world.World.rebuild.Goals as goal
 
 pub empty_hands-requires : goal.empty_hands-requires

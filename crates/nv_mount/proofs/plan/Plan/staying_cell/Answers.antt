@@ -13,7 +13,7 @@ use Rattle.nv_mount.specs.declared.plan.Plan.{Plan}
 use Rattle.nv_mount.proofs.NextCell.{queue_back}
 use Rattle.nv_mount.proofs.Staying.{all_count, can_go, cell_made, entries_are, few, fits, free_after, free_between, is_filled, is_plan, queued, sized_kept, sized_past, wanted_once}
 use Rattle.nv_mount.proofs.plan.Plan.staying_cell.Goals as goal
-use Rattle.nv_mount.proofs.plan.Plan.staying_cell.Goals.{After-cut, After-give_queue, After-fill}
+use Rattle.nv_mount.proofs.plan.Plan.staying_cell.Goals.{After-cut, After-give_queue}
 
 pub cut-requires-clause-within : goal.cut-requires-clause-within
 cut-requires-clause-within c = few _ _ _ _ _ _ _ _ _ _ c.requires.5

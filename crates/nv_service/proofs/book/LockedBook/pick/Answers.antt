@@ -1,13 +1,12 @@
-use Rattle.std.proofs.Common.{◌≡◌, ◌∙◌, ℕ, ap, refl, subst, sym}
+use Rattle.std.proofs.Common.{◌≡◌, ◌∙◌, ap, subst, sym}
 use Rattle.nv_alloc.specs.declared.hand.Hand.{Hand}
-use Rattle.nv_base.specs.declared.geometry.GeometryNumbers.{GeometryNumbers}
-use Rattle.nv_book.specs.Book.{BookState, BookValue}
+use Rattle.nv_book.specs.Book.{BookValue}
 use Rattle.nv_epoch.specs.SnapList.{Snapshots}
-use Rattle.nv_machine.specs.World.{HandState, Pick, Running, empty_hand}
+use Rattle.nv_machine.specs.World.{HandState, empty_hand}
 use Rattle.nv_service.specs.Draining.{IsPickedFrom}
 use Rattle.nv_service.specs.Snapped.{AreSnapped}
 use Rattle.nv_steps.specs.Hands.{hand_of}
-use Rattle.nv_steps.specs.OnBook.{IsBefore, IsPickTurn, drain_of, on_book, was_granted}
+use Rattle.nv_steps.specs.OnBook.{IsPickTurn, drain_of, on_book, was_granted}
 use Rattle.nv_service.proofs.Draining.{kept_book, pick_told}
 use Rattle.nv_service.proofs.book.LockedBook.pick.Goals as goal
 

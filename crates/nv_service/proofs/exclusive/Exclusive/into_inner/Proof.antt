@@ -12,7 +12,7 @@ use contract.Monad.{Fun}
 use contract.Running.{tables, tables_of}
 use sound.WpLaws.{WpFn-mono}
 use types.Logic.{Logic}
-use types.Kit.{‵, raw, ◌⊛◌, prop, ◌$◌, ◌∵◌, !, qed, move, keep, drop, split, fsplit, fjoin, regoal, suffices, done}
+use types.Kit.{‵, raw, ◌⊛◌, prop, ◌$◌, ◌∵◌, !, qed, move, keep, split, fsplit, fjoin, regoal, suffices, done}
 use types.Part.{sub, whole}
 use types.Run.{of_opd, enter, fld, returns, stop}
 use types.ByLocal.{alloc_all, pass_all, free_all, look_at, get, get_in, sets}
@@ -29,7 +29,7 @@ use denote.Triple.Spec.{Meets, triple_of}
 use denote.Triple.Table.{entered}
 use denote.Triple.Walked.{says, Stays, stay_dropped, walk_of, ends_at, walk_Meets}
 use Rattle.core.proofs.alloc.Calls.{Goes-blank}
-use Rattle.nv_service.proofs.ExclusiveWalks.{Good, one, one_had}
+use Rattle.nv_service.proofs.ExclusiveWalks.{one, one_had}
 use Rattle.nv_service.specs.contracts.exclusive.Exclusive as Exclusive
 use Rattle.nv_service.specs.contracts.exclusive.Exclusive.into_inner as F
 use Rattle.nv_service.specs.contracts.exclusive.Exclusive.into_inner.Key.{name as #self}

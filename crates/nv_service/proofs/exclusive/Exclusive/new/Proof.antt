@@ -12,7 +12,7 @@ use contract.Monad.{Fun}
 use contract.Running.{tables, tables_of}
 use sound.WpLaws.{WpFn-mono}
 use types.Logic.{Logic}
-use types.Kit.{‵, raw, ◌⊛◌, prop, ◌$◌, ◌∵◌, !, qed, move, keep, drop, split, fsplit, fjoin, regoal, suffices, done}
+use types.Kit.{‵, raw, ◌⊛◌, prop, ◌$◌, ◌∵◌, !, qed, move, keep, split, fsplit, fjoin, regoal, suffices, done}
 use types.Part.{agg}
 use types.Run.{of_opd, enter, returns, and_then, no_more}
 use types.ByLocal.{alloc_all, pass_all, free_all, look_at, get, sets}
@@ -28,7 +28,7 @@ use denote.Triple.Entry.{alive}
 use denote.Triple.Spec.{Meets, triple_of}
 use denote.Triple.Table.{entered}
 use denote.Triple.Walked.{says, Stays, stay_dropped, walk_of, ends_at, walk_Meets, Goes-dropped}
-use Rattle.nv_service.proofs.ExclusiveWalks.{Good, one, one_made, tells}
+use Rattle.nv_service.proofs.ExclusiveWalks.{one, one_made, tells}
 use Rattle.nv_service.specs.contracts.exclusive.Exclusive as Exclusive
 use Rattle.nv_service.specs.contracts.exclusive.Exclusive.new as F
 use Rattle.nv_service.specs.contracts.exclusive.Exclusive.new.Key.{name as #self}

@@ -1,4 +1,4 @@
-use Rattle.std.proofs.Common.{rules, ◌≡◌, ℕ, [], subst, refl}
+use Rattle.std.proofs.Common.{◌≡◌, ℕ, [], subst, refl}
 use Rattle.std.specs.Prelude.{IfOk}
 use Rattle.nv_calls.specs.declared.call.Call.TheVariants as call
 use Rattle.nv_service.specs.Sessions.{IsFoundAt}
