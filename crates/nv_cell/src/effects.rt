@@ -55,7 +55,7 @@ pub fn apply_all(
     for t in tail..chain.len() {
         let entry = chain.entry_at(t);
         index.tells_names_apart();
-        push_covered(killed, chain, marks, index, block, &entry.item);
-        index.put(block, entry);
+        let place = push_covered(killed, chain, marks, index, block, &entry.item);
+        index.put(block, entry, place);
     }
 }

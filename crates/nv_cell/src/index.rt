@@ -203,9 +203,10 @@ impl CellIndex {
         reserve_bound(&mut self.names, item)
     }
 
-    /// The parts of an entry hold their keys now.
+    /// The parts of an entry hold their keys now. Its first page, if it has one, is looked for at a place among the runs
+    /// first.
     #[inline(always)]
-    pub fn put(&mut self, block: u64, entry: &Entry)
+    pub fn put(&mut self, block: u64, entry: &Entry, place: usize)
         requires block { 0 < block }
         requires room { page_runs_needed entry.now.item ≤ self.old.pages.room }
         requires names { NameReady entry.now.item self.old.names }
@@ -222,7 +223,7 @@ impl CellIndex {
             }
             Item::Write { first, run, .. } => {
                 self.size = part_of(entry, 0);
-                set_pages(&mut self.pages, *first, run.len, entry.id);
+                set_pages(&mut self.pages, *first, run.len, entry.id, place);
             }
             Item::SetSize { size } => {
                 self.size = part_of(entry, 0);
@@ -289,8 +290,8 @@ fn part_of(entry: &Entry, place: u32) -> Option<PartRef>
     })
 }
 
-/// The pages of a run that a file can have lie in the entry.
-fn set_pages(pages: &mut FileIndex, first: u32, len: u32, entry: EntryId)
+/// The pages of a run that a file can have lie in the entry. The first one is looked for at a place first.
+fn set_pages(pages: &mut FileIndex, first: u32, len: u32, entry: EntryId, place: usize)
     requires room { 2 ≤ pages.old.room }
     requires within { AreWithin (ref_at pages.old.pages) }
     ensures pages { (page : ℕ) → ref_at pages.new.pages page
@@ -301,7 +302,7 @@ fn set_pages(pages: &mut FileIndex, first: u32, len: u32, entry: EntryId)
 {
     let len = len.min(FILE_PAGES.saturating_sub(first));
     if len > 0 {
-        pages.set_run(first, len, entry);
+        pages.set_run_near(first, len, entry, place);
     }
 }
 

@@ -104,7 +104,7 @@ fn push_stretch(
 }
 
 /// Puts the parts on the list that the pages of a range have. Costs one look-up, and for each run in the index the
-/// search for its entry.
+/// search for its entry. Returns where the first page was looked up among the runs.
 #[inline(always)]
 fn push_pages(
     killed: &mut Vec<NumberedPart>,
@@ -113,7 +113,7 @@ fn push_pages(
     index: &CellIndex,
     from: u32,
     to: u32,
-)
+) -> usize
     requires ends { AreEnds marks.now.ends.items chain.now.state.entries }
     requires named { AreNamed chain.now.state.entries index.now }
     requires order { from ≤ to }
@@ -124,20 +124,25 @@ fn push_pages(
 {
     let mut next = from;
     let mut place = 0;
+    let mut found = usize::MAX;
     'runs: while next < to {
-        match index.run_near(next, &mut place) {
+        let run = index.run_near(next, &mut place);
+        // Places rise, so the first one stays.
+        found = found.min(place.saturating_sub(1));
+        match run {
             Some(run) if run.first < to => {
                 let start = run.first.max(next);
                 let end = run.end.min(to);
                 push_stretch(killed, chain, marks, index, &run, start, end);
                 next = end;
             }
-            _ => return,
+            _ => return found,
         }
     }
+    found
 }
 
-/// Puts the parts on the list that the pages of a run have.
+/// Puts the parts on the list that the pages of a run have. Returns where the first one was looked up.
 fn push_run(
     killed: &mut Vec<NumberedPart>,
     chain: &Chain,
@@ -145,7 +150,7 @@ fn push_run(
     index: &CellIndex,
     first: u32,
     len: u32,
-)
+) -> usize
     requires ends { AreEnds marks.now.ends.items chain.now.state.entries }
     requires named { AreNamed chain.now.state.entries index.now }
     requires room { HasRoomFor len killed.old }
@@ -154,8 +159,9 @@ fn push_run(
 {
     let end = first.saturating_add(len).min(FILE_PAGES);
     if first < end {
-        push_pages(killed, chain, marks, index, first, end);
+        return push_pages(killed, chain, marks, index, first, end);
     }
+    usize::MAX
 }
 
 /// Puts the parts on the list that the pages from one on have.
@@ -173,7 +179,7 @@ fn push_pages_from(
         (present_from from index.now.pages.pages) killed.old killed.new }
 {
     if from < u64::from(FILE_PAGES) {
-        push_pages(killed, chain, marks, index, from as u32, FILE_PAGES);
+        let _place = push_pages(killed, chain, marks, index, from as u32, FILE_PAGES);
     }
 }
 
@@ -203,7 +209,8 @@ fn push_stat(killed: &mut Vec<NumberedPart>, chain: &Chain, marks: &Marks, index
     push_key(killed, chain, marks, index, Key::Size);
 }
 
-/// Puts the parts on the list that an item kills.
+/// Puts the parts on the list that an item kills. Returns where the first page of a Write was looked up among the runs in
+/// the index.
 #[inline(always)]
 pub fn push_covered(
     killed: &mut Vec<NumberedPart>,
@@ -212,7 +219,7 @@ pub fn push_covered(
     index: &CellIndex,
     block: u64,
     item: &Item,
-)
+) -> usize
     requires ends { AreEnds marks.now.ends.items chain.now.state.entries }
     requires named { AreNamed chain.now.state.entries index.now }
     requires block { 0 < block }
@@ -224,7 +231,7 @@ pub fn push_covered(
         Item::Init { .. } => push_stat(killed, chain, marks, index),
         Item::Write { first, run, .. } => {
             push_key(killed, chain, marks, index, Key::Size);
-            push_run(killed, chain, marks, index, *first, run.len);
+            return push_run(killed, chain, marks, index, *first, run.len);
         }
         Item::SetSize { size } => {
             push_key(killed, chain, marks, index, Key::Size);
@@ -240,4 +247,5 @@ pub fn push_covered(
             push_names(killed, chain, marks, index);
         }
     }
+    usize::MAX
 }

@@ -146,7 +146,7 @@ impl Scan {
         let most = weight_of(&self.index, block, 0, names, &entry.item);
         self.ended.clear();
         self.ended.reserve(most)?;
-        push_covered(
+        let place = push_covered(
             &mut self.ended,
             chain,
             &self.marks,
@@ -155,7 +155,7 @@ impl Scan {
             &entry.item,
         );
         self.index.reserve_for(&entry.item)?;
-        self.index.put(block, entry);
+        self.index.put(block, entry, place);
         self.marks.end_all(chain, living, &self.ended, entry.epoch);
         Ok(())
     }

@@ -11,13 +11,13 @@ use Rattle.nv_cell.proofs.Publishing.{IsScan, are_named, kill_step, scan_push, t
 use Rattle.nv_cell.proofs.Weighing.{weight_is, weights_push}
 use Rattle.nv_cell.proofs.effects.apply_all.Goals as goal
 
-pub push_covered-requires-clause-named : goal.push_covered-requires-clause-named
-push_covered-requires-clause-named c =
+pub push_covered-place-requires-clause-named : goal.push_covered-place-requires-clause-named
+push_covered-place-requires-clause-named c =
     are_named c.args.block c.args.chain.now.state.entries c.loop-t.t c.loop-t.index
     (record { log = c.requires.rising; scan = c.loop-t.invariant.scan })
 
-pub push_covered-requires-clause-room : goal.push_covered-requires-clause-room
-push_covered-requires-clause-room c =
+pub push_covered-place-requires-clause-room : goal.push_covered-place-requires-clause-room
+push_covered-place-requires-clause-room c =
     let es = c.args.chain.now.state.entries in
     let t = c.loop-t.t in
     let e = c.entry_at-entry.result.now in
@@ -55,11 +55,11 @@ loop-t-preserved c =
       scan = λ key. c.put.ensures.refs key ∙ ap (ref_after c.args.block e key) (c.loop-t.invariant.scan key)
           ∙ sym (scan_push c.args.block (take t es) e key)
           ∙ ap (λ (xs : List Entry). scan_ref c.args.block xs key) (sym (take_next es t e p.within p.is));
-      capacity = c.push_covered.ensures.capacity ∙ c.loop-t.invariant.capacity;
-      len = omega (arith, c.push_covered.ensures.len, w, len, more);
+      capacity = c.push_covered-place.ensures.capacity ∙ c.loop-t.invariant.capacity;
+      len = omega (arith, c.push_covered-place.ensures.len, w, len, more);
       killed = λ n.
           let s = kill_step c.args.block es c.args.tail t n e c.loop-t.index h c.loop-t.auto.t p.within p.is in
-          omega (arith, c.loop-t.invariant.killed n, c.push_covered.ensures.numbers n, s);
+          omega (arith, c.loop-t.invariant.killed n, c.push_covered-place.ensures.numbers n, s);
     }
 
 pub put-requires-clause-names : goal.put-requires-clause-names

@@ -38,7 +38,7 @@ returns-in_default-2 c =
     let idx = c.args.index.now in
     let more = how_many_more (λ page. is_some (ref_at idx.pages.pages page)) c.args.from (c.runs.next - c.args.from)
     (c.args.to - c.args.from) (omega arith) in
-    let none = rw c.in_default.is at c.run_near.ensures.run in
+    let none = rw c.in_default.is at c.run_near-run.ensures.run in
     skipped c.args.chain.now.state.entries idx c.args.from c.runs.next c.args.to (present_between idx c.args.from c.runs.next)
     (present_between idx c.args.from c.args.to) c.args.killed.now c.runs.killed
     c.runs.invariant.pushed c.runs.invariant.begin c.runs.invariant.high

@@ -15,18 +15,18 @@ use Rattle.nv_cell.proofs.Numbered.{length_numbers}
 use Rattle.nv_cell.proofs.Publishing.{IsScan, are_named, total_take}
 use Rattle.nv_cell.proofs.Scanning.{ended_low, same_ends, scan_more, weight_few}
 use Rattle.nv_cell.proofs.scan.Scan.take_in.Goals as goal
-use Rattle.nv_cell.proofs.scan.Scan.take_in.Goals.{After-push_covered}
+use Rattle.nv_cell.proofs.scan.Scan.take_in.Goals.{After-push_covered-place}
 
-pub push_covered-requires-clause-ends : goal.push_covered-requires-clause-ends
-push_covered-requires-clause-ends c = c.requires.scanned.ends.ends
+pub push_covered-place-requires-clause-ends : goal.push_covered-place-requires-clause-ends
+push_covered-place-requires-clause-ends c = c.requires.scanned.ends.ends
 
-pub push_covered-requires-clause-named : goal.push_covered-requires-clause-named
-push_covered-requires-clause-named c =
+pub push_covered-place-requires-clause-named : goal.push_covered-place-requires-clause-named
+push_covered-place-requires-clause-named c =
     are_named c.args.block c.args.chain.now.state.entries c.args.t c.args.self.now.index
     (record { log = c.holds_together.ensures.rising; scan = c.requires.scanned.refs })
 
-pub push_covered-requires-clause-room : goal.push_covered-requires-clause-room
-push_covered-requires-clause-room c =
+pub push_covered-place-requires-clause-room : goal.push_covered-place-requires-clause-room
+push_covered-place-requires-clause-room c =
     let most = rw c.name_count-names.ensures.value at c.weight_of-most.ensures in
     omega (
       arith,
@@ -37,14 +37,14 @@ push_covered-requires-clause-room c =
     )
 
 -- the parts that the entry ends, by their numbers
-counted : (c : After-push_covered) (n : ℕ) → times n (numbers_in c.push_covered.new.killed.items)
+counted : (c : After-push_covered-place) (n : ℕ) → times n (numbers_in c.push_covered-place.new.killed.items)
     ≡ cond (is_named c.args.chain.now.state.entries c.args.self.now.index n
     && covers c.args.block c.entry_at-entry.result.now.item (key_at c.args.chain.now.state.entries n)) 1 0
 counted c n =
     let empty = c.in_ok-reserve.ensures.items ∙ c.clear.ensures.items in
     omega (
       arith,
-      c.push_covered.ensures.numbers n,
+      c.push_covered-place.ensures.numbers n,
       ap (λ (ps : List NumberedPart). times n (numbers_in ps)) empty,
     )
 
@@ -54,9 +54,9 @@ end_all-requires-clause-ends c = c.requires.scanned.ends
 pub end_all-requires-clause-within : goal.end_all-requires-clause-within
 end_all-requires-clause-within c i lt =
     let es = c.args.chain.now.state.entries in
-    let parts = c.push_covered.new.killed.items in
+    let parts = c.push_covered-place.new.killed.items in
     let ns = numbers_in parts in
-    let here = (goal.at.end_all-requires-clause-within c).After-push_covered in
+    let here = (goal.at.end_all-requires-clause-within c).After-push_covered-place in
     let is : IsScan c.args.block es c.args.t c.args.self.now.index =
     record { log = c.holds_together.ensures.rising; scan = c.requires.scanned.refs } in
     let within : i < length ns = omega (arith, lt, ap (λ (ps : List NumberedPart). length ps) c.deref.ensures.value, length_numbers parts) in
@@ -81,10 +81,10 @@ returns-clause-ok c =
     let living = c.args.living.now in
     let old : Scan = c.args.self.now in
     let e : Entry = c.entry_at-entry.result.now in
-    let here = (goal.at.returns-clause-ok c).After-push_covered in
-    let ns = numbers_in c.push_covered.new.killed.items in
+    let here = (goal.at.returns-clause-ok c).After-push_covered-place in
+    let ns = numbers_in c.push_covered-place.new.killed.items in
     let marks = c.end_all.new.self.marks.items in
-    let new : Scan = record { index = c.put.new.self; marks = c.end_all.new.self; ended = c.push_covered.new.killed } in
+    let new : Scan = record { index = c.put.new.self; marks = c.end_all.new.self; ended = c.push_covered-place.new.killed } in
     scan_more c.args.block living c.args.chain.now c.args.tail c.args.t e old c.holds_together.ensures.rising c.requires.next
     c.requires.within (entry_read es c.args.t e c.entry_at-entry.ensures).is c.requires.scanned ns (counted here) marks
     (λ n. c.end_all.ensures.marks n
