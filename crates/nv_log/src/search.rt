@@ -51,6 +51,15 @@ fn guess_from(entries: &[Entry], place: usize, id: EntryId) -> usize {
     }
 }
 
+/// Where an id would stand if commits followed one another from the entry at a place on, or up to it.
+fn follow_from(entries: &[Entry], place: usize, id: EntryId) -> usize {
+    let Some(at) = entries.get(place) else {
+        return 0;
+    };
+    let (from, to) = (at.id.commit.number(), id.commit.number());
+    place.wrapping_add(to.wrapping_sub(from) as usize)
+}
+
 /// Where an id would stand among the entries near a place.
 fn near(entries: &[Entry], place: usize, id: EntryId) -> usize {
     let low = place.saturating_sub(NEAR).min(entries.len());
@@ -60,8 +69,8 @@ fn near(entries: &[Entry], place: usize, id: EntryId) -> usize {
 
 /// The place of the entry of that id. In a run of commits it is told by the id. The last entry and the first are asked
 /// before others, since most parts that are looked for are theirs. Among more than a few entries it is guessed
-/// as if commits lay evenly, and twice more from what stands at the guess: where the entry is near, this costs the same
-/// at any number of entries, and else the logarithm of them all.
+/// as if commits lay evenly, then as if they followed one another from what stands at the guess, and twice more as if they
+/// lay evenly: where the entry is near, this costs the same at any number of entries, and else the logarithm of them all.
 pub fn place_of(entries: &[Entry], run: CommitRun, id: EntryId) -> Option<usize>
     requires log { IsLog entries.now }
     requires run { IsCommitRun entries.now run }
@@ -82,6 +91,10 @@ pub fn place_of(entries: &[Entry], run: CommitRun, id: EntryId) -> Option<usize>
         let guess = guess_from(entries, 0, id);
         if is_at(entries, guess, id) {
             return Some(guess);
+        }
+        let place = follow_from(entries, guess, id);
+        if is_at(entries, place, id) {
+            return Some(place);
         }
         let closer = guess_from(entries, guess, id);
         let place = near(entries, guess_from(entries, closer, id), id);
