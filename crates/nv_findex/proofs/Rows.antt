@@ -2,7 +2,7 @@
 use Rattle.std.proofs.Common.{◌≡◌, ℕ, zero, suc, ◌+◌, ◌-◌, ◌*◌, ◌/◌, ◌%◌, ◌<◌, ◌≤◌, Bool, true, false, cond, List, [], ◌∷◌, ◌++◌, length, take, drop, set, get_or, nat_lt, refl, ap, sym, ◌∙◌, arith, subst}
 use Rattle.std.specs.List.{insert}
 use Rattle.std.proofs.lemmas.Bool.{ltb-true, ltb-false}
-use Rattle.std.proofs.lemmas.List.{append-nil, append_assoc, length-append, length-take, length-drop, length-set, get_or_append_left, get_or-append_right, get_or-take, get_or-drop, get_or-set_same, set-append_left, set-append_right, set-set, set-get_or, take-append-drop, take-take, take_all, take-append-le, take-set, take-set-le, drop-set, take_more_set, drop-take, drop-drop, drop_all, drop-append-le, drop-set-lt, drop-set-add, drop_more, take_more}
+use Rattle.std.proofs.lemmas.List.{append-nil, append_assoc, length-append, length-take, length-drop, length-set, get_or_default, get_or_append_left, get_or-append_right, get_or-take, get_or-drop, get_or-set_same, set-append_left, set-append_right, set-set, set-get_or, take-append-drop, take-take, take_all, take-append-le, take-set, take-set-le, take_more_set, drop-take, drop-drop, drop_all, drop-append-le, drop-set-lt, drop-set-add, drop_more}
 use Rattle.std.proofs.lemmas.List.Edits.{insert-append_left, insert-append_right, insert_end}
 use Rattle.nv_findex.specs.Rows.{turned, in_rows, AreStarts, slot}
 
@@ -21,19 +21,18 @@ unfolding AreStarts
 starts_count [] len h = (omega arith, omega arith)
 starts_count (s ∷ ss) len h = let rest = starts_count ss (len - 64) h.2 in (omega (arith, rest.0, h.1), omega (arith, rest.1, h.1))
 
--- a row that is within the list is a full one
-pub is_row : {A : Type 0} (ss : List ℕ) (xs items : List A) (q : ℕ) → AreStarts ss (length xs) → in_rows ss xs ≡ items
-    → q * 64 + 64 ≤ length items → (q < length ss) × (q * 64 + 64 ≤ length xs)
-is_row ss xs items q h is le =
-    let count = starts_count ss (length xs) h in
-    let len = sym (ap length is) ∙ length_rows ss xs in
-    (omega (arith, len, count.1), omega (arith, len))
-
 pub start_low : (ss : List ℕ) (len q : ℕ) → AreStarts ss len → get_or ss q 0 < 64
 unfolding AreStarts
 start_low [] len q h = omega arith
 start_low (s ∷ ss) len zero h = h.0
 start_low (s ∷ ss) len (suc q) h = start_low ss (len - 64) q h.2
+
+-- what a list in rows tells of its starts
+pub rows_tell : {A : Type 0} (ss : List ℕ) (xs : List A) → AreStarts ss (length xs) → (length (in_rows ss xs) ≡ length xs)
+    × ((length ss * 64 ≤ length xs) × ((length xs < length ss * 64 + 64) × ((q s : ℕ) → q < length ss → (get_or ss q s ≡ get_or ss q 0) × (get_or ss q s < 64))))
+rows_tell ss xs h =
+    let count = starts_count ss (length xs) h in
+    (length_rows ss xs, (count.0, (count.1, λ q s lt. let same = get_or_default ss q s 0 lt in (same, omega (arith, same, start_low ss (length xs) q h)))))
 
 pub starts_set : (ss : List ℕ) (len q v : ℕ) → AreStarts ss len → v < 64 → AreStarts (set ss q v) len
 unfolding AreStarts
@@ -216,17 +215,6 @@ module _ {A : Type 0} (ss : List ℕ) (q a : ℕ) (xs : List A) (h : AreStarts s
       ∙ ap (λ (l : List A). row_front ss q a xs ++ (l ++ row_back ss q a xs)) (ring_set (get_or ss q 0) r (row_at a xs) x (length_row a xs fits) (start_low ss _ q h) in')
       ∙ sym old
 
-  pub row_pull : (c d : A) → insert (in_rows ss xs) (a + 64) c
-      ≡ insert (in_rows (set ss q ((get_or ss q 0 + 1) % 64)) (set xs (a + get_or ss q 0) c)) a (get_or xs (a + get_or ss q 0) d)
-  row_pull c d =
-      let fits = row_fits in
-      let low = start_low ss _ q h in
-      let front = length_front ss q a xs (omega arith) in
-      rw (split_row ss q a xs e lt, with_row ss q a ((get_or ss q 0 + 1) % 64) (get_or ss q 0) xs c e lt low)
-      (insert_behind a (row_front ss q a xs) (turned (get_or ss q 0) (row_at a xs)) (row_back ss q a xs) c front (length_turned _ (row_at a xs) ∙ length_row a xs fits)
-      ∙ rw (ring_pull (get_or ss q 0) (row_at a xs) c d (length_row a xs fits) low, row_item _ d low)
-      (sym (insert_before a (row_front ss q a xs) (turned ((get_or ss q 0 + 1) % 64) (set (row_at a xs) (get_or ss q 0) c)) (row_back ss q a xs) (get_or xs (a + get_or ss q 0) d) front)))
-
   pub row_pass : (t : ℕ) (c d : A) → t ≡ (get_or ss q 0 + 63) % 64
       → insert (in_rows ss xs) a c ≡ insert (in_rows (set ss q t) (set xs (a + t) c)) (a + 64) (get_or xs (a + t) d)
   row_pass t c d is =
@@ -349,13 +337,3 @@ rows_cut ss q n xs ys h lt low high e =
     ∙ sym (ap (λ l. take n l) (split_row ss q (q * 64) xs refl lt)
     ∙ take_past n (row_front ss q (q * 64) xs) (ring ++ row_back ss q (q * 64) xs) (q * 64) (length_front ss q (q * 64) xs (omega arith)) low
     ∙ ap (λ l. row_front ss q (q * 64) xs ++ l) (take-append-le (n - q * 64) ring (row_back ss q (q * 64) xs) len))
-
--- a step of an item that goes on from place to place
-pub insert_up : {A : Type 0} (xs : List A) (i : ℕ) (c r : A) → i < length xs → r ≡ get_or xs i r → insert xs i c ≡ insert (set xs i c) (i + 1) r
-insert_up xs i c r lt e =
-    rw (take_more_set xs i c lt, drop-set-lt (i + 1) xs i c (omega arith), drop_more xs i r lt, sym e)
-    (sym (append_assoc (take i xs) (c ∷ []) (r ∷ drop (i + 1) xs)))
-
-pub insert_down : {A : Type 0} (xs : List A) (i : ℕ) (c r : A) → i < length xs → r ≡ get_or xs i r → insert xs (i + 1) c ≡ insert (set xs i c) i r
-insert_down xs i c r lt e =
-    rw (take-set xs i c, drop-set xs i c lt, take_more xs i r lt, sym e) (append_assoc (take i xs) (r ∷ []) (c ∷ drop (i + 1) xs))
