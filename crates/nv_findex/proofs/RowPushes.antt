@@ -4,7 +4,7 @@ use Rattle.std.specs.List.{copy_within, insert}
 use Rattle.std.proofs.lemmas.Grind.{common_steps, elements, get_or-set_at, get_or_head, get_or_tail}
 use Rattle.std.proofs.lemmas.List.{length-append, length-take, length-drop, ext_get_or, get_or_default, get_or-append_right, get_or_append_left, get_or-take, get_or-drop, get_or-set_other, length-set}
 use Rattle.nv_findex.specs.Rows.{pushed, in_rows, AreStarts}
-use Rattle.nv_findex.proofs.Rows.{length_rows, start_low, starts_count, slot_get}
+use Rattle.nv_findex.proofs.Rows.{length_rows, starts_set, start_low, starts_count, slot_get}
 
 -- an item of a list that is made of parts
 get_behind : {A : Type 0} (xs ys : List A) (i : ℕ) (d : A) → length xs ≤ i → get_or (xs ++ ys) i d ≡ get_or ys (i - length xs) d
@@ -68,3 +68,20 @@ module _ {A : Type 0} (ss : List ℕ) (n : ℕ) (xs : List A) (h : AreStarts ss 
         here = λ k d is. grind (arith, slot_get);
         moves = λ k d from to. grind (arith, slot_get);
       }) (omega arith) (omega (arith, length_rows ss xs)) (grind (arith, slot_get))
+
+-- an item that comes in at the front of a row, whose last one goes out
+pub row_pass : {A : Type 0} (ss : List ℕ) (q t : ℕ) (xs : List A) (c d : A) → AreStarts ss (length xs) → q < length ss → t ≡ (get_or ss q 0 + 63) % 64
+    → insert (in_rows ss xs) (q * 64) c ≡ insert (in_rows (set ss q t) (set xs (q * 64 + t) c)) (q * 64 + 64) (get_or xs (q * 64 + t) d)
+row_pass ss q t xs c d h lt is =
+    let fits : q * 64 + 64 ≤ length xs = omega (arith, (starts_count ss (length xs) h).0) in
+    let new = set xs (q * 64 + t) c in
+    let starts : AreStarts (set ss q t) (length new) =
+    subst (AreStarts (set ss q t)) (sym (length-set xs (q * 64 + t) c)) (starts_set ss (length xs) q t h (omega arith)) in
+    let out = get_or xs (q * 64 + t) d in
+    let same = get_or_default xs (q * 64 + t) d out (omega arith) in
+    insert_pushed (q * 64) (q * 64 + 64) c out (in_rows ss xs) (in_rows (set ss q t) new) (record {
+      len = length_rows (set ss q t) new ∙ length-set xs (q * 64 + t) c ∙ sym (length_rows ss xs);
+      stays = λ k e past. grind (arith, slot_get, get_or-set_at, get_or-set_other, length-set);
+      here = λ k e at. grind (arith, slot_get, get_or-set_at, get_or-set_other, length-set);
+      moves = λ k e from to. grind (arith, slot_get, get_or-set_at, get_or-set_other, length-set);
+    }) (omega arith) (omega (arith, length_rows ss xs)) (grind (arith, slot_get))

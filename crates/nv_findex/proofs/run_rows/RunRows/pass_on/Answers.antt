@@ -1,9 +1,10 @@
-use Rattle.std.proofs.Common.{◌∙◌, ◌+◌, ◌*◌, ◌%◌, ◌<◌, ℕ, length, set, ap, sym, subst, arith, refl}
+use Rattle.std.proofs.Common.{◌∙◌, ◌+◌, ◌*◌, ◌%◌, ◌<◌, ℕ, length, set, ap, sym, subst, arith}
 use Rattle.std.proofs.lemmas.List.{length-set}
 use Rattle.std.specs.List.{insert}
 use Rattle.nv_findex.specs.declared.page_run.PageRun.{PageRun}
 use Rattle.nv_findex.specs.Rows.{RunList, AreStarts, in_rows}
-use Rattle.nv_findex.proofs.Rows.{length_rows, rows_tell, starts_set, row_pass}
+use Rattle.nv_findex.proofs.Rows.{length_rows, rows_tell, starts_set}
+use Rattle.nv_findex.proofs.RowPushes.{row_pass}
 use Rattle.nv_findex.proofs.run_rows.RunRows.pass_on.Goals as goal
 
 pub invariant_of-self : goal.invariant_of-self
@@ -32,5 +33,5 @@ returns-clause-items c =
     let start = (c.index.result.now + 63) % 64 in
     let read = c.index.ensures ∙ (all.1.1.1 c.args.row c.index.result.now row).0 in
     ap (λ (r : RunList). insert r.items (c.args.row * 64) c.args.run) (sym c.self.view_is)
-    ∙ row_pass f.starts.items c.args.row (c.args.row * 64) f.runs.items c.self.invariant.0 row refl start c.args.run c.index-out.result.now (ap (λ (s : ℕ). (s + 63) % 64) read)
+    ∙ row_pass f.starts.items c.args.row start f.runs.items c.args.run c.index-out.result.now c.self.invariant.0 row (ap (λ (s : ℕ). (s + 63) % 64) read)
     ∙ ap (λ (o : PageRun). insert (in_rows (set f.starts.items c.args.row start) (set f.runs.items (c.args.row * 64 + start) c.args.run)) (c.args.row * 64 + 64) o) (sym c.index-out.ensures)

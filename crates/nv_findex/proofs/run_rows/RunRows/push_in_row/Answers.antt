@@ -2,7 +2,7 @@ use Rattle.std.proofs.Common.{◌≡◌, ◌∙◌, ◌+◌, ◌*◌, ◌/◌, �
 use Rattle.std.specs.List.{insert}
 use Rattle.nv_findex.specs.Rows.{RunList}
 use Rattle.nv_findex.proofs.Rows.{rows_tell}
-use Rattle.nv_findex.proofs.RowPushes.{pushes, row_pushed, row_pushed_over}
+use Rattle.nv_findex.proofs.RowPushes.{IsPushed, pushes, row_pushed, row_pushed_over}
 use Rattle.nv_findex.proofs.run_rows.RunRows.push_in_row.Goals as goal
 
 pub returns-then-at-first-clause-items : goal.returns-then-at-first-clause-items
@@ -52,7 +52,8 @@ returns-clause-items c =
     let read : (start ≡ get_or ss (place / 64) 0) × (get_or ss (place / 64) 0 < 64) = omega (arith, c.index.ensures, all.1.1.1 (place / 64) start row) in
     let one = c.push_within-out in
     let two = c.push_within-2 in
-    let p = pushes _ _ c.args.run xs one.new.runs.items one.ensures.items (omega arith) (omega arith) in
+    let p : IsPushed (first + (start + place % 64) % 64) (first + 64) c.args.run xs one.new.runs.items =
+    pushes _ _ c.args.run xs one.new.runs.items one.ensures.items (omega arith) (omega arith) in
     ap (λ (r : RunList). insert r.items place c.args.run) (sym c.self.view_is)
     ∙ row_pushed_over ss place xs c.self.invariant.0 row (first + (start + place % 64) % 64) (first + 64) (first + start) c.args.run one.result two.result
     one.new.runs.items two.new.runs.items p (pushes _ _ one.result one.new.runs.items two.new.runs.items two.ensures.items (omega arith) (omega (arith, p.len)))
