@@ -2,8 +2,9 @@
 use Rattle.std.proofs.Common.{◌≡◌, ℕ, zero, suc, ◌+◌, ◌-◌, ◌*◌, ◌/◌, ◌%◌, ◌<◌, ◌≤◌, Bool, true, false, cond, List, [], ◌∷◌, ◌++◌, length, take, drop, set, get_or, nat_lt, refl, ap, sym, ◌∙◌, arith, subst}
 use Rattle.std.specs.List.{insert}
 use Rattle.std.proofs.lemmas.Bool.{ltb-true, ltb-false}
-use Rattle.std.proofs.lemmas.List.{append-nil, append_assoc, length-append, length-take, length-drop, length-set, get_or_append_left, get_or-append_right, get_or-take, get_or-drop, get_or-set_same, set-append_left, set-append_right, set-set, set-get_or, take-append-drop, take-take, take_all, take-append-le, take-set, take-set-le, drop-set, take_more_set, drop-take, drop-drop, drop_all, drop-append-le, drop-set-lt, drop-set-add, drop_more, take_more}
-use Rattle.std.proofs.lemmas.List.Edits.{insert-append_left, insert-append_right, insert_end}
+use Rattle.std.proofs.lemmas.List.{append-nil, append_assoc, length-append, length-take, length-drop, length-set, ext_get_or, get_or-set_other, get_or_default, get_or_append_left, get_or-append_right, get_or-take, get_or-drop, take-append-drop, take-take, take_all, take-append-le, drop-take, drop-drop, drop-append-le}
+use Rattle.std.proofs.lemmas.Grind.{get_or-set_at}
+use Rattle.std.proofs.lemmas.List.Edits.{insert-append_right}
 use Rattle.nv_findex.specs.Rows.{turned, in_rows, AreStarts, slot}
 
 pub length_turned : {A : Type 0} (s : ℕ) (xs : List A) → length (turned s xs) ≡ length xs
@@ -21,19 +22,18 @@ unfolding AreStarts
 starts_count [] len h = (omega arith, omega arith)
 starts_count (s ∷ ss) len h = let rest = starts_count ss (len - 64) h.2 in (omega (arith, rest.0, h.1), omega (arith, rest.1, h.1))
 
--- a row that is within the list is a full one
-pub is_row : {A : Type 0} (ss : List ℕ) (xs items : List A) (q : ℕ) → AreStarts ss (length xs) → in_rows ss xs ≡ items
-    → q * 64 + 64 ≤ length items → (q < length ss) × (q * 64 + 64 ≤ length xs)
-is_row ss xs items q h is le =
-    let count = starts_count ss (length xs) h in
-    let len = sym (ap length is) ∙ length_rows ss xs in
-    (omega (arith, len, count.1), omega (arith, len))
-
 pub start_low : (ss : List ℕ) (len q : ℕ) → AreStarts ss len → get_or ss q 0 < 64
 unfolding AreStarts
 start_low [] len q h = omega arith
 start_low (s ∷ ss) len zero h = h.0
 start_low (s ∷ ss) len (suc q) h = start_low ss (len - 64) q h.2
+
+-- what a list in rows tells of its starts
+pub rows_tell : {A : Type 0} (ss : List ℕ) (xs : List A) → AreStarts ss (length xs) → (length (in_rows ss xs) ≡ length xs)
+    × ((length ss * 64 ≤ length xs) × ((length xs < length ss * 64 + 64) × ((q s : ℕ) → q < length ss → (get_or ss q s ≡ get_or ss q 0) × (get_or ss q s < 64))))
+rows_tell ss xs h =
+    let count = starts_count ss (length xs) h in
+    (length_rows ss xs, (count.0, (count.1, λ q s lt. let same = get_or_default ss q s 0 lt in (same, omega (arith, same, start_low ss (length xs) q h)))))
 
 pub starts_set : (ss : List ℕ) (len q v : ℕ) → AreStarts ss len → v < 64 → AreStarts (set ss q v) len
 unfolding AreStarts
@@ -89,27 +89,6 @@ take_past (suc n) (x ∷ p) q m e le =
     let same : n - (m - 1) ≡ suc n - m = omega arith in
     ap (λ l. x ∷ l) (take_past n p q (m - 1) (omega arith) (omega arith) ∙ ap (λ k. p ++ take k q) same)
 
-take_set_in : {A : Type 0} (n : ℕ) (xs : List A) (i : ℕ) (x : A) → take n (set xs i x) ≡ set (take n xs) i x
-take_set_in zero xs i x = refl
-take_set_in (suc n) [] i x = refl
-take_set_in (suc n) (y ∷ ys) zero x = refl
-take_set_in (suc n) (y ∷ ys) (suc i) x = ap (λ l. y ∷ l) (take_set_in n ys i x)
-
--- the same with another start of the row and another item in it
-with_row : {A : Type 0} (ss : List ℕ) (q a v k : ℕ) (xs : List A) (x : A) → a ≡ q * 64 → q < length ss → k < 64
-    → in_rows (set ss q v) (set xs (a + k) x) ≡ row_front ss q a xs ++ (turned v (set (row_at a xs) k x) ++ row_back ss q a xs)
-with_row ss q a v k xs x e lt in' =
-    split_row (set ss q v) q a (set xs (a + k) x) e (omega (arith, length-set ss q v))
-    ∙ rw (
-      take-set ss q v,
-      take-set-le a xs (a + k) x (omega arith),
-      get_or-set_same ss q v 0 lt,
-      drop-set-add a xs k x,
-      take_set_in 64 (drop a xs) k x,
-      drop-set-lt (suc q) ss q v (omega arith),
-      drop-set-lt (a + 64) xs (a + k) x (omega arith),
-    ) refl
-
 pub length_front : {A : Type 0} (ss : List ℕ) (q a : ℕ) (xs : List A) → a ≤ length xs → length (row_front ss q a xs) ≡ a
 length_front ss q a xs le = length_rows (take q ss) (take a xs) ∙ omega (arith, length-take a xs)
 
@@ -130,59 +109,6 @@ ring_get s r xs d e low lt = go (nat_lt (s + r) 64) refl where
       get_or-append_right (drop s xs) (take s xs) (64 - s) r d (omega (arith, length-drop s xs)) (omega (arith, ltb-false _ _ t))
       ∙ get_or-take s xs (r - (64 - s)) d (omega (arith, ltb-false _ _ t)) ∙ ap (λ k. get_or xs k d) here
 
-ring_set : {A : Type 0} (s r : ℕ) (xs : List A) (x : A) → length xs ≡ 64 → s < 64 → r < 64
-    → turned s (set xs ((s + r) % 64) x) ≡ set (turned s xs) r x
-ring_set s r xs x e low lt = go (nat_lt (s + r) 64) refl where
-  go : (b : Bool) → nat_lt (s + r) 64 ≡ b → turned s (set xs ((s + r) % 64) x) ≡ set (turned s xs) r x
-  go true t =
-      let here : (s + r) % 64 ≡ s + r = omega (arith, ltb-true _ _ t) in
-      rw (here, drop-set-add s xs r x, take-set-le s xs (s + r) x (omega arith))
-      (sym (set-append_left (drop s xs) (take s xs) r x (omega (arith, length-drop s xs, ltb-true _ _ t))))
-  go false t =
-      let here : (s + r) % 64 ≡ r - (64 - s) = omega (arith, ltb-false _ _ t) in
-      rw (here, drop-set-lt s xs (r - (64 - s)) x (omega (arith, ltb-false _ _ t)), take_set_in s xs (r - (64 - s)) x)
-      (sym (set-append_right (drop s xs) (take s xs) (64 - s) r x (omega (arith, length-drop s xs)) (omega (arith, ltb-false _ _ t))))
-
--- a ring whose first item goes out and in whose place another comes in behind
-ring_next : {A : Type 0} (s : ℕ) (xs : List A) → length xs ≡ 64 → s < 64 → turned ((s + 1) % 64) xs ≡ drop (s + 1) xs ++ take (s + 1) xs
-ring_next s xs e low = go (nat_lt (s + 1) 64) refl where
-  go : (b : Bool) → nat_lt (s + 1) 64 ≡ b → turned ((s + 1) % 64) xs ≡ drop (s + 1) xs ++ take (s + 1) xs
-  go true t = let here : (s + 1) % 64 ≡ s + 1 = omega (arith, ltb-true _ _ t) in rw here refl
-  go false t =
-      let here : (s + 1) % 64 ≡ 0 = omega (arith, ltb-false _ _ t) in
-      rw (here, drop_all (s + 1) xs (omega (arith, ltb-false _ _ t)), take_all (s + 1) xs (omega (arith, ltb-false _ _ t))) (append-nil xs)
-
-ring_pull : {A : Type 0} (s : ℕ) (xs : List A) (c d : A) → length xs ≡ 64 → s < 64
-    → turned s xs ++ c ∷ [] ≡ get_or xs s d ∷ turned ((s + 1) % 64) (set xs s c)
-ring_pull s xs c d e low =
-    rw (
-      ring_next s (set xs s c) (length-set xs s c ∙ e) low,
-      drop-set-lt (s + 1) xs s c (omega arith),
-      take_more_set xs s c (omega arith),
-      drop_more xs s d (omega arith),
-    ) (ap (λ l. get_or xs s d ∷ l) (append_assoc (drop (s + 1) xs) (take s xs) (c ∷ [])))
-
-ring_pass : {A : Type 0} (s t : ℕ) (xs : List A) (c d : A) → length xs ≡ 64 → s < 64 → t ≡ (s + 63) % 64
-    → c ∷ turned s xs ≡ turned t (set xs t c) ++ get_or xs t d ∷ []
-ring_pass s t xs c d e low is =
-    let in' : t < 64 = omega arith in
-    let back : (t + 1) % 64 ≡ s = omega arith in
-    sym (ring_pull t (set xs t c) (get_or xs t d) d (length-set xs t c ∙ e) in'
-    ∙ rw (get_or-set_same xs t c d (omega arith), set-set xs t c (get_or xs t d), set-get_or xs t d, back) refl)
-
--- inserts before and behind the middle of three parts
-insert_before : {A : Type 0} (a : ℕ) (f t b : List A) (c : A) → length f ≡ a → insert (f ++ (t ++ b)) a c ≡ f ++ ((c ∷ t) ++ b)
-insert_before a f t b c e =
-    let none : a - a ≡ 0 = omega arith in
-    insert-append_right f (t ++ b) a a c e (omega arith) ∙ rw none refl
-
-insert_behind : {A : Type 0} (a : ℕ) (f t b : List A) (c : A) → length f ≡ a → length t ≡ 64
-    → insert (f ++ (t ++ b)) (a + 64) c ≡ f ++ ((t ++ c ∷ []) ++ b)
-insert_behind a f t b c e k =
-    let all : a + 64 - a ≡ length t = omega arith in
-    insert-append_right f (t ++ b) a (a + 64) c e (omega arith)
-    ∙ rw (all, insert-append_left t b (length t) c (omega arith), insert_end t c) refl
-
 module _ {A : Type 0} (ss : List ℕ) (q a : ℕ) (xs : List A) (h : AreStarts ss (length xs)) (lt : q < length ss) (e : a ≡ q * 64) where
   pub row_fits : a + 64 ≤ length xs
   row_fits = omega (arith, (starts_count ss (length xs) h).0)
@@ -201,45 +127,6 @@ module _ {A : Type 0} (ss : List ℕ) (q a : ℕ) (xs : List A) (h : AreStarts s
       ∙ get_or_append_left ring (row_back ss q a xs) d r (omega (arith, length_turned (get_or ss q 0) (row_at a xs), length_row a xs fits))
       ∙ ring_get (get_or ss q 0) r (row_at a xs) d (length_row a xs fits) (start_low ss _ q h) in'
       ∙ row_item ((get_or ss q 0 + r) % 64) d (omega arith)
-
-  pub row_set : (r : ℕ) (x : A) → r < 64 → in_rows ss (set xs (a + (get_or ss q 0 + r) % 64) x) ≡ set (in_rows ss xs) (a + r) x
-  row_set r x in' =
-      let fits = row_fits in
-      let here : a + r - a ≡ r = omega arith in
-      let ring = turned (get_or ss q 0) (row_at a xs) in
-      let old = ap (λ (l : List A). set l (a + r) x) (split_row ss q a xs e lt)
-      ∙ set-append_right (row_front ss q a xs) (ring ++ row_back ss q a xs) a (a + r) x (length_front ss q a xs (omega arith)) (omega arith)
-      ∙ ap (λ (n : ℕ). row_front ss q a xs ++ set (ring ++ row_back ss q a xs) n x) here
-      ∙ ap (λ (l : List A). row_front ss q a xs ++ l) (set-append_left ring (row_back ss q a xs) r x (omega (arith, length_turned (get_or ss q 0) (row_at a xs), length_row a xs fits))) in
-      ap (λ (l : List ℕ). in_rows l (set xs (a + (get_or ss q 0 + r) % 64) x)) (sym (set-get_or ss q 0))
-      ∙ with_row ss q a (get_or ss q 0) ((get_or ss q 0 + r) % 64) xs x e lt (omega arith)
-      ∙ ap (λ (l : List A). row_front ss q a xs ++ (l ++ row_back ss q a xs)) (ring_set (get_or ss q 0) r (row_at a xs) x (length_row a xs fits) (start_low ss _ q h) in')
-      ∙ sym old
-
-  pub row_pull : (c d : A) → insert (in_rows ss xs) (a + 64) c
-      ≡ insert (in_rows (set ss q ((get_or ss q 0 + 1) % 64)) (set xs (a + get_or ss q 0) c)) a (get_or xs (a + get_or ss q 0) d)
-  row_pull c d =
-      let fits = row_fits in
-      let low = start_low ss _ q h in
-      let front = length_front ss q a xs (omega arith) in
-      rw (split_row ss q a xs e lt, with_row ss q a ((get_or ss q 0 + 1) % 64) (get_or ss q 0) xs c e lt low)
-      (insert_behind a (row_front ss q a xs) (turned (get_or ss q 0) (row_at a xs)) (row_back ss q a xs) c front (length_turned _ (row_at a xs) ∙ length_row a xs fits)
-      ∙ rw (ring_pull (get_or ss q 0) (row_at a xs) c d (length_row a xs fits) low, row_item _ d low)
-      (sym (insert_before a (row_front ss q a xs) (turned ((get_or ss q 0 + 1) % 64) (set (row_at a xs) (get_or ss q 0) c)) (row_back ss q a xs) (get_or xs (a + get_or ss q 0) d) front)))
-
-  pub row_pass : (t : ℕ) (c d : A) → t ≡ (get_or ss q 0 + 63) % 64
-      → insert (in_rows ss xs) a c ≡ insert (in_rows (set ss q t) (set xs (a + t) c)) (a + 64) (get_or xs (a + t) d)
-  row_pass t c d is =
-      let fits = row_fits in
-      let low = start_low ss _ q h in
-      let in' : t < 64 = omega arith in
-      let front = length_front ss q a xs (omega arith) in
-      let len : length (turned t (set (row_at a xs) t c)) ≡ 64 = length_turned t (set (row_at a xs) t c) ∙ length-set (row_at a xs) t c ∙ length_row a xs fits in
-      rw (split_row ss q a xs e lt, with_row ss q a t t xs c e lt in')
-      (insert_before a (row_front ss q a xs) (turned (get_or ss q 0) (row_at a xs)) (row_back ss q a xs) c front
-      ∙ ap (λ (l : List A). row_front ss q a xs ++ (l ++ row_back ss q a xs)) (ring_pass (get_or ss q 0) t (row_at a xs) c d (length_row a xs fits) low is)
-      ∙ ap (λ (o : A). row_front ss q a xs ++ ((turned t (set (row_at a xs) t c) ++ o ∷ []) ++ row_back ss q a xs)) (row_item t d in')
-      ∙ sym (insert_behind a (row_front ss q a xs) (turned t (set (row_at a xs) t c)) (row_back ss q a xs) (get_or xs (a + t) d) front len))
 
 -- what is behind the full rows lies in order
 pub rows_append : {A : Type 0} (ss : List ℕ) (xs ys : List A) → length ss * 64 ≤ length xs → in_rows ss (xs ++ ys) ≡ in_rows ss xs ++ ys
@@ -284,14 +171,6 @@ module _ {A : Type 0} (ss : List ℕ) (xs : List A) (h : AreStarts ss (length xs
       ∙ get_or-append_right (in_rows ss (take (length ss * 64) xs)) (drop (length ss * 64) xs) (length ss * 64) i d length_rest le
       ∙ get_or-drop (length ss * 64) xs (i - length ss * 64) d ∙ ap (λ (k : ℕ). get_or xs k d) here
 
-  pub rest_set : (i : ℕ) (x : A) → length ss * 64 ≤ i → in_rows ss (set xs i x) ≡ set (in_rows ss xs) i x
-  rest_set i x le =
-      with_rest (set xs i x) (set (drop (length ss * 64) xs) (i - length ss * 64) x)
-      (ap (λ (l : List A). set l i x) (sym (take-append-drop (length ss * 64) xs))
-      ∙ set-append_right (take (length ss * 64) xs) (drop (length ss * 64) xs) (length ss * 64) i x length_before le)
-      ∙ sym (ap (λ (l : List A). set l i x) split_rest
-      ∙ set-append_right (in_rows ss (take (length ss * 64) xs)) (drop (length ss * 64) xs) (length ss * 64) i x length_rest le)
-
   pub rest_insert : (i : ℕ) (x : A) → length ss * 64 ≤ i → in_rows ss (insert xs i x) ≡ insert (in_rows ss xs) i x
   rest_insert i x le =
       with_rest (insert xs i x) (insert (drop (length ss * 64) xs) (i - length ss * 64) x)
@@ -318,21 +197,19 @@ module _ {A : Type 0} (ss : List ℕ) (xs : List A) (h : AreStarts ss (length xs
         ∙ row_get ss (i / 64) (i / 64 * 64) xs h (ltb-true _ _ t) refl (i % 64) d (omega arith)
     go false t = rest_get i d (omega (arith, ltb-false _ _ t))
 
-  pub slot_set : (i : ℕ) (x : A) → in_rows ss (set xs (slot ss i) x) ≡ set (in_rows ss xs) i x
-  slot_set i x = go (nat_lt (i / 64) (length ss)) refl where
-    go : (b : Bool) → nat_lt (i / 64) (length ss) ≡ b
-        → in_rows ss (set xs (cond b (i / 64 * 64 + (get_or ss (i / 64) 0 + i % 64) % 64) i) x) ≡ set (in_rows ss xs) i x
-    go true t =
-        let here : i / 64 * 64 + i % 64 ≡ i = omega arith in
-        row_set ss (i / 64) (i / 64 * 64) xs h (ltb-true _ _ t) refl (i % 64) x (omega arith)
-        ∙ ap (λ (k : ℕ). set (in_rows ss xs) k x) here
-    go false t = rest_set i x (omega (arith, ltb-false _ _ t))
-
   pub slot_within : (i : ℕ) → i < length xs → slot ss i < length xs
   slot_within i lt = go (nat_lt (i / 64) (length ss)) refl where
     go : (b : Bool) → nat_lt (i / 64) (length ss) ≡ b → cond b (i / 64 * 64 + (get_or ss (i / 64) 0 + i % 64) % 64) i < length xs
     go true t = omega (arith, ltb-true _ _ t, rest_from)
     go false t = lt
+
+pub slot_set : {A : Type 0} (ss : List ℕ) (xs : List A) → AreStarts ss (length xs) → (i : ℕ) (x : A) → in_rows ss (set xs (slot ss i) x) ≡ set (in_rows ss xs) i x
+slot_set ss xs h i x =
+    let starts : AreStarts ss (length (set xs (slot ss i) x)) = subst (AreStarts ss) (sym (length-set xs (slot ss i) x)) h in
+    let len = length_rows ss (set xs (slot ss i) x) ∙ length-set xs (slot ss i) x in
+    let within = slot_within ss xs h i in
+    ext_get_or x (in_rows ss (set xs (slot ss i) x)) (set (in_rows ss xs) i x) (len ∙ sym (length-set (in_rows ss xs) i x ∙ length_rows ss xs))
+    (λ k in'. grind (arith, slot_get, get_or-set_at, get_or-set_other, length_rows))
 
 -- the first items, where the last row of them is turned back
 pub rows_cut : {A : Type 0} (ss : List ℕ) (q n : ℕ) (xs ys : List A) → AreStarts ss (length xs) → q < length ss → q * 64 ≤ n → n < q * 64 + 64
@@ -349,13 +226,3 @@ rows_cut ss q n xs ys h lt low high e =
     ∙ sym (ap (λ l. take n l) (split_row ss q (q * 64) xs refl lt)
     ∙ take_past n (row_front ss q (q * 64) xs) (ring ++ row_back ss q (q * 64) xs) (q * 64) (length_front ss q (q * 64) xs (omega arith)) low
     ∙ ap (λ l. row_front ss q (q * 64) xs ++ l) (take-append-le (n - q * 64) ring (row_back ss q (q * 64) xs) len))
-
--- a step of an item that goes on from place to place
-pub insert_up : {A : Type 0} (xs : List A) (i : ℕ) (c r : A) → i < length xs → r ≡ get_or xs i r → insert xs i c ≡ insert (set xs i c) (i + 1) r
-insert_up xs i c r lt e =
-    rw (take_more_set xs i c lt, drop-set-lt (i + 1) xs i c (omega arith), drop_more xs i r lt, sym e)
-    (sym (append_assoc (take i xs) (c ∷ []) (r ∷ drop (i + 1) xs)))
-
-pub insert_down : {A : Type 0} (xs : List A) (i : ℕ) (c r : A) → i < length xs → r ≡ get_or xs i r → insert xs (i + 1) c ≡ insert (set xs i c) i r
-insert_down xs i c r lt e =
-    rw (take-set xs i c, drop-set xs i c lt, take_more xs i r lt, sym e) (append_assoc (take i xs) (r ∷ []) (c ∷ drop (i + 1) xs))

@@ -230,27 +230,12 @@ impl FileIndex {
         ensures room { self.new.room + run_count_of self.new.pages
             ≡ self.old.room + run_count_of self.old.pages }
     {
-        self.set_run_near(first, len, entry, usize::MAX);
-    }
-
-    /// Sets pages as [`FileIndex::set_run`] does, of which the first is looked for at a place among the runs first, as
-    /// one that [`FileIndex::run_near`] told. A right place spares the first look-up.
-    #[tactic(auto, using(crate::proofs::Counts::run_count_is))]
-    pub fn set_run_near(&mut self, first: u32, len: u32, entry: EntryId, place: usize)
-        requires some { 0 < len }
-        requires within { first + len ≤ FILE_PAGES }
-        requires room { 2 ≤ self.old.room }
-        ensures pages { SetsRun first len entry (ref_at self.old.pages) (ref_at self.new.pages) }
-        ensures runs { run_count_of self.new.pages ≤ run_count_of self.old.pages + 2 }
-        ensures room { self.new.room + run_count_of self.new.pages
-            ≡ self.old.room + run_count_of self.old.pages }
-    {
         let run = PageRun {
             first,
             end: first + len,
             start: PageRef { entry, place: 0 },
         };
-        put::put(&mut self.runs, &mut self.empty, run, place);
+        put::put(&mut self.runs, &mut self.empty, run);
     }
 
     /// Makes every page from `page` on absent. It takes no memory, and gives back the room of the runs that

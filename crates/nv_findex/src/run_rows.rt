@@ -115,6 +115,7 @@ impl RunRows {
     }
 
     /// The run at a place.
+    #[tactic(auto, using(crate::proofs::Rows::rows_tell))]
     pub fn at(&self, place: usize) -> PageRun
         requires { place < length self.now.items }
         ensures { result ≡ slice_index_or self.now.items place result }
@@ -133,6 +134,7 @@ impl RunRows {
     }
 
     /// Puts a run in the place of another, which it returns.
+    #[tactic(auto, using(crate::proofs::Rows::rows_tell))]
     pub fn replace(&mut self, place: usize, run: PageRun) -> PageRun
         requires { place < length self.old.items }
         ensures value { result ≡ slice_index_or self.old.items place result }
@@ -146,6 +148,7 @@ impl RunRows {
     }
 
     /// Makes room for as many more runs.
+    #[tactic(auto, using(crate::proofs::Rows::rows_tell))]
     pub fn reserve_exact(&mut self, more: usize) -> Result<(), AllocError>
         ensures items { self.new.items ≡ self.old.items }
         ensures ok { OnOk result
@@ -165,6 +168,7 @@ impl RunRows {
     }
 
     /// Puts a run in front of a full row, and takes the row's last one out. It moves no other.
+    #[tactic(auto, using(crate::proofs::Rows::rows_tell))]
     fn pass_on(&mut self, row: usize, run: PageRun) -> PageRun
         requires { row * ROW + ROW ≤ length self.old.items }
         ensures items { insert self.old.items (row * ROW) run
@@ -181,6 +185,7 @@ impl RunRows {
     }
 
     /// Puts a run at a place of a full row, moves those behind it in that row by one, and takes the last of them out.
+    #[tactic(auto, using(crate::proofs::Rows::rows_tell))]
     fn push_in_row(&mut self, place: usize, run: PageRun) -> PageRun
         requires { place / ROW * ROW + ROW ≤ length self.old.items }
         ensures items { insert self.old.items place run
@@ -219,6 +224,7 @@ impl RunRows {
 
     /// Puts a run at a place behind the full rows.
     #[inline(always)]
+    #[tactic(auto, using(crate::proofs::Rows::rows_tell))]
     fn insert_last(&mut self, place: usize, run: PageRun)
         requires last { length self.old.items / ROW * ROW ≤ place }
         requires within { place ≤ length self.old.items }
@@ -251,6 +257,7 @@ impl RunRows {
     }
 
     /// Keeps the first runs alone.
+    #[tactic(auto, using(crate::proofs::Rows::rows_tell))]
     pub fn truncate(&mut self, len: usize)
         ensures items { self.new.items ≡ take len self.old.items }
         ensures capacity { self.new.capacity ≡ self.old.capacity }

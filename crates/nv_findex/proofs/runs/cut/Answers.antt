@@ -13,18 +13,16 @@ overflow_sub-empty c =
     count_le c.keep_below-kept.new.runs.items c.keep_below-kept.result c.len.result c.args.empty.now _ (omega (arith, kept.within, c.len.ensures)) (omega (arith, c.len.ensures))
     (omega (arith, c.requires.empty, kept.len, kept.present)) c.empty_in.ensures
 
-pub returns-clause-empty : goal.returns-clause-empty
-returns-clause-empty c =
+pub returns : goal.returns
+returns c =
     let kept = c.keep_below-kept.ensures in
-    rw c.truncate.ensures.items
-    (count_front c.keep_below-kept.new.runs.items c.keep_below-kept.result c.len.result c.args.empty.now _ (omega (arith, kept.within, c.len.ensures)) c.len.ensures
-    (omega (arith, c.requires.empty, kept.len, kept.present)) c.empty_in.ensures)
-
-pub returns-clause-places : goal.returns-clause-places
-returns-clause-places c = (cut_is c.args.page c.ended_by-at.result c.args.runs.now.items _ c.requires.places c.ended_by-at.ensures.border (c.truncate.ensures.items ∙ c.keep_below-kept.ensures.before)).places
-
-pub returns-clause-pages : goal.returns-clause-pages
-returns-clause-pages c = (cut_is c.args.page c.ended_by-at.result c.args.runs.now.items _ c.requires.places c.ended_by-at.ensures.border (c.truncate.ensures.items ∙ c.keep_below-kept.ensures.before)).pages
-
-pub returns-clause-count : goal.returns-clause-count
-returns-clause-count c = (cut_is c.args.page c.ended_by-at.result c.args.runs.now.items _ c.requires.places c.ended_by-at.ensures.border (c.truncate.ensures.items ∙ c.keep_below-kept.ensures.before)).count
+    let cut = cut_is c.args.page c.ended_by-at.result c.args.runs.now.items _ c.requires.places c.ended_by-at.ensures.border (c.truncate.ensures.items ∙ kept.before) in
+    record {
+      places = cut.places;
+      pages = cut.pages;
+      count = cut.count;
+      empty = rw c.truncate.ensures.items
+          (count_front c.keep_below-kept.new.runs.items c.keep_below-kept.result c.len.result c.args.empty.now _ (omega (arith, kept.within, c.len.ensures)) c.len.ensures
+          (omega (arith, c.requires.empty, kept.len, kept.present)) c.empty_in.ensures);
+      capacity = c.truncate.ensures.capacity ∙ kept.capacity;
+    }

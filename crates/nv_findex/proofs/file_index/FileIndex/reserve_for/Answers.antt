@@ -7,25 +7,16 @@ invariant_of-self c =
     let s = squeezed c.self.inside.runs.items _ _ c.self.invariant.0 c.squeeze.ensures.items c.squeeze.ensures.empty in
     (s.places, omega (arith, ap length s.same, c.self.invariant.1, c.squeeze.ensures.capacity), s.empty)
 
-pub returns-then-len-self-clause-pages : goal.returns-then-len-self-clause-pages
-returns-then-len-self-clause-pages c =
-    (squeezed c.self.inside.runs.items _ _ c.self.invariant.0 c.squeeze.ensures.items c.squeeze.ensures.empty).same
-    ∙ ap (λ v. v.pages) c.self.view_is
-
-pub returns-then-len-self-clause-ok : goal.returns-then-len-self-clause-ok
-returns-then-len-self-clause-ok c =
+pub returns-then-len-self : goal.returns-then-len-self
+returns-then-len-self c =
     let s = squeezed c.self.inside.runs.items _ _ c.self.invariant.0 c.squeeze.ensures.items c.squeeze.ensures.empty in
     let room = ap (λ v. v.room) c.self.view_is in
-    omega (arith, ap length s.same, room, c.room.ensures, c.if-is_room.true, c.squeeze.ensures.capacity)
-
-pub returns-then-len-self-clause-kept : goal.returns-then-len-self-clause-kept
-returns-then-len-self-clause-kept c =
-    let s = squeezed c.self.inside.runs.items _ _ c.self.invariant.0 c.squeeze.ensures.items c.squeeze.ensures.empty in
-    let room = ap (λ v. v.room) c.self.view_is in
-    omega (arith, ap length s.same, room, c.squeeze.ensures.capacity)
-
-pub returns-then-len-self-clause-most : goal.returns-then-len-self-clause-most
-returns-then-len-self-clause-most c =
-    let s = squeezed c.self.inside.runs.items _ _ c.self.invariant.0 c.squeeze.ensures.items c.squeeze.ensures.empty in
-    let room = ap (λ v. v.room) c.self.view_is in
-    omega (arith, ap length s.same, room, c.squeeze.ensures.capacity)
+    record {
+      pages = s.same ∙ ap (λ v. v.pages) c.self.view_is;
+      ok = omega (arith, ap length s.same, room, c.room.ensures, c.if-is_room.true, c.squeeze.ensures.capacity);
+      kept = omega (arith, ap length s.same, room, c.squeeze.ensures.capacity);
+      most = omega (arith, ap length s.same, room, c.squeeze.ensures.capacity);
+      err = tt;
+      missing = tt;
+      fault = tt;
+    }

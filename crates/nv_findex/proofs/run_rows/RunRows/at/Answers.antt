@@ -1,16 +1,7 @@
-use Rattle.std.proofs.Common.{◌∙◌, ◌<◌, ℕ, List, length, get_or, vec_len, ap, sym, subst, arith}
+use Rattle.std.proofs.Common.{◌∙◌, ℕ, List, get_or, ap, sym}
 use Rattle.nv_findex.specs.Rows.{RunList, slot}
-use Rattle.nv_findex.proofs.Rows.{length_rows, slot_get, slot_within}
+use Rattle.nv_findex.proofs.Rows.{slot_get}
 use Rattle.nv_findex.proofs.run_rows.RunRows.at.Goals as goal
-
-pub index-requires : goal.index-requires
-index-requires c =
-    let f = c.self.inside in
-    let items = ap (λ (r : RunList). r.items) c.self.view_is in
-    let at = c.slot.ensures ∙ ap (λ (s : List ℕ). slot s c.args.place) c.deref.ensures.value in
-    let low : c.args.place < length f.runs.items = omega (arith, c.requires, ap length items, length_rows f.starts.items f.runs.items) in
-    let inside = slot_within f.starts.items f.runs.items c.self.invariant.0 c.args.place low in
-    subst (λ (n : ℕ). n < vec_len f.runs) (sym at) (omega (arith, inside, f.runs.ok.0))
 
 pub returns : goal.returns
 returns c =

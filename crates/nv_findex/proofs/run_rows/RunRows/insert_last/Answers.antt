@@ -5,43 +5,6 @@ use Rattle.nv_findex.specs.Rows.{RunList, AreStarts, in_rows}
 use Rattle.nv_findex.proofs.Rows.{length_rows, starts_count, starts_push, starts_stay, rows_push, rest_insert}
 use Rattle.nv_findex.proofs.run_rows.RunRows.insert_last.Goals as goal
 
-pub insert_with_room-requires : goal.insert_with_room-requires
-insert_with_room-requires c =
-    let f = c.self.inside in
-    let items = ap (λ (r : RunList). length r.items) c.self.view_is in
-    let rows = length_rows f.starts.items f.runs.items in
-    let count = starts_count f.starts.items (length f.runs.items) c.self.invariant.0 in
-    let room = ap (λ (r : RunList). r.capacity) c.self.view_is in
-    record {
-      within = omega (arith, c.requires.within, items, rows, f.runs.ok.0);
-      room = omega (arith, c.requires.room, items, rows, room, f.runs.ok.0);
-    }
-
-pub overflow_mul-len : goal.overflow_mul-len
-overflow_mul-len c =
-    let f = c.self.inside in
-    let items = ap (λ (r : RunList). length r.items) c.self.view_is in
-    let rows = length_rows f.starts.items f.runs.items in
-    let count = starts_count f.starts.items (length f.runs.items) c.self.invariant.0 in
-    omega (arith, items, rows, count, f.runs.ok, f.starts.ok, f.runs.small)
-
-pub overflow_add-len : goal.overflow_add-len
-overflow_add-len c =
-    let f = c.self.inside in
-    let items = ap (λ (r : RunList). length r.items) c.self.view_is in
-    let rows = length_rows f.starts.items f.runs.items in
-    let count = starts_count f.starts.items (length f.runs.items) c.self.invariant.0 in
-    omega (arith, items, rows, count, f.runs.ok, f.starts.ok, f.runs.small)
-
-pub push_reserved-requires : goal.push_reserved-requires
-push_reserved-requires c =
-    let f = c.self.inside in
-    let items = ap (λ (r : RunList). length r.items) c.self.view_is in
-    let rows = length_rows f.starts.items f.runs.items in
-    let count = starts_count f.starts.items (length f.runs.items) c.self.invariant.0 in
-    let room = ap (λ (r : RunList). r.capacity) c.self.view_is in
-    omega (arith, c.if-len.true, c.requires.room, c.self.invariant.1, room, items, rows, count, f.runs.ok, f.starts.ok)
-
 pub invariant_of-self : goal.invariant_of-self
 invariant_of-self c =
     let f = c.self.inside in
@@ -79,9 +42,6 @@ returns-then-len-clause-items c =
     ∙ rest_insert f.starts.items f.runs.items c.self.invariant.0 c.args.place c.args.run (omega (arith, c.requires.last, items, rows, count.0))
     ∙ ap (λ (r : RunList). insert r.items c.args.place c.args.run) c.self.view_is
 
-pub returns-then-len-clause-capacity : goal.returns-then-len-clause-capacity
-returns-then-len-clause-capacity c = c.insert_with_room.ensures.capacity ∙ ap (λ (r : RunList). r.capacity) c.self.view_is
-
 pub returns-else-len-clause-items : goal.returns-else-len-clause-items
 returns-else-len-clause-items c =
     let f = c.self.inside in
@@ -91,6 +51,3 @@ returns-else-len-clause-items c =
     ap (λ (l : List PageRun). in_rows f.starts.items l) c.insert_with_room.ensures.items
     ∙ rest_insert f.starts.items f.runs.items c.self.invariant.0 c.args.place c.args.run (omega (arith, c.requires.last, items, rows, count.0))
     ∙ ap (λ (r : RunList). insert r.items c.args.place c.args.run) c.self.view_is
-
-pub returns-else-len-clause-capacity : goal.returns-else-len-clause-capacity
-returns-else-len-clause-capacity c = c.insert_with_room.ensures.capacity ∙ ap (λ (r : RunList). r.capacity) c.self.view_is

@@ -2,7 +2,7 @@ use Rattle.std.proofs.Common.{◌≡◌, ◌∙◌, ◌+◌, ◌*◌, ◌/◌, �
 use Rattle.std.proofs.lemmas.List.{get_or_read_under, take_all, with_items_is}
 use Rattle.nv_findex.specs.declared.page_run.PageRun.{PageRun}
 use Rattle.nv_findex.specs.Rows.{RunList, AreStarts, in_rows, turned}
-use Rattle.nv_findex.proofs.Rows.{length_rows, starts_count, start_low, starts_stay, starts_take, rest_take, rows_cut}
+use Rattle.nv_findex.proofs.Rows.{length_rows, starts_count, starts_stay, starts_take, rest_take, rows_cut}
 use Rattle.nv_findex.proofs.run_rows.RunRows.truncate.Goals as goal
 
 pub returns-then-len-clause-items : goal.returns-then-len-clause-items
@@ -30,19 +30,6 @@ returns-then-len-row-clause-items c =
     ap (λ (l : List PageRun). in_rows f.starts.items l) c.truncate.ensures.items
     ∙ rest_take f.starts.items f.runs.items c.self.invariant.0 c.args.len (omega (arith, c.if-len-row.true, f.starts.ok))
     ∙ ap (λ (r : RunList). take c.args.len r.items) c.self.view_is
-
-pub turn_row-requires-clause-row : goal.turn_row-requires-clause-row
-turn_row-requires-clause-row c =
-    let f = c.self.inside in
-    let count = starts_count f.starts.items (length f.runs.items) c.self.invariant.0 in
-    omega (arith, count.0, c.if-len-row.false, c.deref_mut.ensures.len, f.runs.ok, f.starts.ok)
-
-pub turn_row-requires-clause-start : goal.turn_row-requires-clause-start
-turn_row-requires-clause-start c =
-    let f = c.self.inside in
-    let row = c.args.len / 64 in
-    let read = get_or_read_under f.starts.items row (vec_len f.starts) c.index.result.now 0 c.index.ensures (omega (arith, c.if-len-row.false)) f.starts.ok.0 in
-    omega (arith, read, start_low f.starts.items (length f.runs.items) row c.self.invariant.0)
 
 pub invariant_of-self-2 : goal.invariant_of-self-2
 invariant_of-self-2 c =
