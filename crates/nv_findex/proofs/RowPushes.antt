@@ -37,16 +37,16 @@ insert_pushed : {A : Type 0} (i j : ℕ) (c o : A) (xs ys : List A) → IsPushed
     → insert xs i c ≡ insert ys j o
 insert_pushed i j c o xs ys p lt le read = ext_get_or c (insert xs i c) (insert ys j o) (grind (arith, elements)) (λ k in'. grind (arith, elements))
 
-module _ {A : Type 0} (ss : List ℕ) (n : ℕ) (xs : List A) (h : AreStarts ss (length xs)) (lt : n / 64 < length ss) where
+module _ {A : Type 0} (ss : List ℕ) (n : ℕ) (xs : List A) (h : AreStarts ss (length xs)) (lt : n / 128 < length ss) where
   -- one push in a row, which ends where its ring does
-  pub row_pushed : (i j : ℕ) (c o : A) (ys : List A) → IsPushed i j c xs ys → i ≡ n / 64 * 64 + (get_or ss (n / 64) 0 + n % 64) % 64 → i < j
-      → j ≤ n / 64 * 64 + 64 → (j - n / 64 * 64) % 64 ≡ get_or ss (n / 64) 0 → o ≡ get_or xs (j - 1) o
-      → insert (in_rows ss xs) n c ≡ insert (in_rows ss ys) (n / 64 * 64 + 64) o
+  pub row_pushed : (i j : ℕ) (c o : A) (ys : List A) → IsPushed i j c xs ys → i ≡ n / 128 * 128 + (get_or ss (n / 128) 0 + n % 128) % 128 → i < j
+      → j ≤ n / 128 * 128 + 128 → (j - n / 128 * 128) % 128 ≡ get_or ss (n / 128) 0 → o ≡ get_or xs (j - 1) o
+      → insert (in_rows ss xs) n c ≡ insert (in_rows ss ys) (n / 128 * 128 + 128) o
   row_pushed i j c o ys p at order end ring read =
-      let low = start_low ss _ (n / 64) h in
-      let fits : n / 64 * 64 + 64 ≤ length xs = omega (arith, (starts_count ss (length xs) h).0) in
+      let low = start_low ss _ (n / 128) h in
+      let fits : n / 128 * 128 + 128 ≤ length xs = omega (arith, (starts_count ss (length xs) h).0) in
       let starts : AreStarts ss (length ys) = subst (AreStarts ss) (sym p.len) h in
-      insert_pushed n (n / 64 * 64 + 64) c o (in_rows ss xs) (in_rows ss ys) (record {
+      insert_pushed n (n / 128 * 128 + 128) c o (in_rows ss xs) (in_rows ss ys) (record {
         len = omega (arith, length_rows ss xs, length_rows ss ys, p.len);
         stays = λ k d out. grind (arith, slot_get);
         here = λ k d is. grind (arith, slot_get);
@@ -54,15 +54,15 @@ module _ {A : Type 0} (ss : List ℕ) (n : ℕ) (xs : List A) (h : AreStarts ss 
       }) (omega arith) (omega (arith, length_rows ss xs)) (grind (arith, slot_get))
 
   -- two pushes: the one that the first takes out goes to the front of the row
-  pub row_pushed_over : (i j m : ℕ) (c e o : A) (ys zs : List A) → IsPushed i j c xs ys → IsPushed (n / 64 * 64) m e ys zs → 0 < get_or ss (n / 64) 0
-      → get_or ss (n / 64) 0 + n % 64 < 64 → i ≡ n / 64 * 64 + (get_or ss (n / 64) 0 + n % 64) → j ≡ n / 64 * 64 + 64
-      → m ≡ n / 64 * 64 + get_or ss (n / 64) 0 → e ≡ get_or xs (j - 1) e → o ≡ get_or ys (m - 1) o
-      → insert (in_rows ss xs) n c ≡ insert (in_rows ss zs) (n / 64 * 64 + 64) o
+  pub row_pushed_over : (i j m : ℕ) (c e o : A) (ys zs : List A) → IsPushed i j c xs ys → IsPushed (n / 128 * 128) m e ys zs → 0 < get_or ss (n / 128) 0
+      → get_or ss (n / 128) 0 + n % 128 < 128 → i ≡ n / 128 * 128 + (get_or ss (n / 128) 0 + n % 128) → j ≡ n / 128 * 128 + 128
+      → m ≡ n / 128 * 128 + get_or ss (n / 128) 0 → e ≡ get_or xs (j - 1) e → o ≡ get_or ys (m - 1) o
+      → insert (in_rows ss xs) n c ≡ insert (in_rows ss zs) (n / 128 * 128 + 128) o
   row_pushed_over i j m c e o ys zs p p' some over at end front out read =
-      let fits : n / 64 * 64 + 64 ≤ length xs = omega (arith, (starts_count ss (length xs) h).0) in
+      let fits : n / 128 * 128 + 128 ≤ length xs = omega (arith, (starts_count ss (length xs) h).0) in
       let starts : AreStarts ss (length zs) = subst (AreStarts ss) (sym (p'.len ∙ p.len)) h in
       let passed : (d : A) → get_or xs (j - 1) d ≡ e = λ d. get_or_default xs (j - 1) d e (omega arith) ∙ sym out in
-      insert_pushed n (n / 64 * 64 + 64) c o (in_rows ss xs) (in_rows ss zs) (record {
+      insert_pushed n (n / 128 * 128 + 128) c o (in_rows ss xs) (in_rows ss zs) (record {
         len = omega (arith, length_rows ss xs, length_rows ss zs, p.len, p'.len);
         stays = λ k d out. grind (arith, slot_get);
         here = λ k d is. grind (arith, slot_get);
@@ -70,17 +70,17 @@ module _ {A : Type 0} (ss : List ℕ) (n : ℕ) (xs : List A) (h : AreStarts ss 
       }) (omega arith) (omega (arith, length_rows ss xs)) (grind (arith, slot_get))
 
 -- an item that comes in at the front of a row, whose last one goes out
-pub row_pass : {A : Type 0} (ss : List ℕ) (q t : ℕ) (xs : List A) (c d : A) → AreStarts ss (length xs) → q < length ss → t ≡ (get_or ss q 0 + 63) % 64
-    → insert (in_rows ss xs) (q * 64) c ≡ insert (in_rows (set ss q t) (set xs (q * 64 + t) c)) (q * 64 + 64) (get_or xs (q * 64 + t) d)
+pub row_pass : {A : Type 0} (ss : List ℕ) (q t : ℕ) (xs : List A) (c d : A) → AreStarts ss (length xs) → q < length ss → t ≡ (get_or ss q 0 + 127) % 128
+    → insert (in_rows ss xs) (q * 128) c ≡ insert (in_rows (set ss q t) (set xs (q * 128 + t) c)) (q * 128 + 128) (get_or xs (q * 128 + t) d)
 row_pass ss q t xs c d h lt is =
-    let fits : q * 64 + 64 ≤ length xs = omega (arith, (starts_count ss (length xs) h).0) in
-    let new = set xs (q * 64 + t) c in
+    let fits : q * 128 + 128 ≤ length xs = omega (arith, (starts_count ss (length xs) h).0) in
+    let new = set xs (q * 128 + t) c in
     let starts : AreStarts (set ss q t) (length new) =
-    subst (AreStarts (set ss q t)) (sym (length-set xs (q * 64 + t) c)) (starts_set ss (length xs) q t h (omega arith)) in
-    let out = get_or xs (q * 64 + t) d in
-    let same = get_or_default xs (q * 64 + t) d out (omega arith) in
-    insert_pushed (q * 64) (q * 64 + 64) c out (in_rows ss xs) (in_rows (set ss q t) new) (record {
-      len = length_rows (set ss q t) new ∙ length-set xs (q * 64 + t) c ∙ sym (length_rows ss xs);
+    subst (AreStarts (set ss q t)) (sym (length-set xs (q * 128 + t) c)) (starts_set ss (length xs) q t h (omega arith)) in
+    let out = get_or xs (q * 128 + t) d in
+    let same = get_or_default xs (q * 128 + t) d out (omega arith) in
+    insert_pushed (q * 128) (q * 128 + 128) c out (in_rows ss xs) (in_rows (set ss q t) new) (record {
+      len = length_rows (set ss q t) new ∙ length-set xs (q * 128 + t) c ∙ sym (length_rows ss xs);
       stays = λ k e past. grind (arith, slot_get, get_or-set_at, get_or-set_other, length-set);
       here = λ k e at. grind (arith, slot_get, get_or-set_at, get_or-set_other, length-set);
       moves = λ k e from to. grind (arith, slot_get, get_or-set_at, get_or-set_other, length-set);

@@ -202,8 +202,8 @@ impl FileIndex {
     /// An overwrite of just one run, with no empty place behind it, costs one look-up and moves nothing. Any other
     /// write costs two look-ups, of which the second begins where the first one ended, and a step for each run and each
     /// empty place between them. Runs that go leave their places empty, and move nothing. The runs that there are more
-    /// than before take the next two places where these are empty. Each other one costs a move of 128 runs at most and
-    /// a step for each 64 places behind. A write with no present page behind it costs a move of 64 runs at most instead.
+    /// than before take the next two places where these are empty. Each other one costs a move of 256 runs at most and
+    /// a step for each 128 places behind. A write with no present page behind it costs a move of 128 runs at most instead.
     ///
     /// Where more than half of all places are empty then, the empty ones are taken out, by a step for each place: fewer
     /// than two for each empty one. So are they first where fewer than two more places have room, as may happen behind
@@ -230,16 +230,31 @@ impl FileIndex {
         ensures room { self.new.room + run_count_of self.new.pages
             ≡ self.old.room + run_count_of self.old.pages }
     {
+        self.set_run_near(first, len, entry, usize::MAX);
+    }
+
+    /// Sets pages as [`FileIndex::set_run`] does, of which the first is looked for at a place among the runs first, as
+    /// one that [`FileIndex::run_near`] told. A right place spares the first look-up.
+    #[tactic(auto, using(crate::proofs::Counts::run_count_is))]
+    pub fn set_run_near(&mut self, first: u32, len: u32, entry: EntryId, place: usize)
+        requires some { 0 < len }
+        requires within { first + len ≤ FILE_PAGES }
+        requires room { 2 ≤ self.old.room }
+        ensures pages { SetsRun first len entry (ref_at self.old.pages) (ref_at self.new.pages) }
+        ensures runs { run_count_of self.new.pages ≤ run_count_of self.old.pages + 2 }
+        ensures room { self.new.room + run_count_of self.new.pages
+            ≡ self.old.room + run_count_of self.old.pages }
+    {
         let run = PageRun {
             first,
             end: first + len,
             start: PageRef { entry, place: 0 },
         };
-        put::put(&mut self.runs, &mut self.empty, run);
+        put::put(&mut self.runs, &mut self.empty, run, place);
     }
 
     /// Makes every page from `page` on absent. It takes no memory, and gives back the room of the runs that
-    /// go. Costs one look-up, a move of 64 runs at most, and a step for each place that goes if any place is empty.
+    /// go. Costs one look-up, a move of 128 runs at most, and a step for each place that goes if any place is empty.
     #[tactic(auto, using(crate::proofs::Counts::run_count_is))]
     pub fn cut_from(&mut self, page: u32)
         // A cut makes the pages from one on absent.

@@ -192,10 +192,10 @@ fn put_at(runs: &mut RunRows, empty: &mut usize, at: usize, run: PageRun)
     }
 }
 
-/// Puts a run in place of what the runs have of its pages, of which the first is looked for behind all runs first. So
-/// many of their places are empty. Those of runs that went stay, empty, until they are more than half of all or the room
-/// is needed.
-pub fn put(runs: &mut RunRows, empty: &mut usize, run: PageRun)
+/// Puts a run in place of what the runs have of its pages, of which the first is looked for at `place` first. So many of
+/// their places are empty. Those of runs that went stay, empty, until they are more than half of all or the room is
+/// needed.
+pub fn put(runs: &mut RunRows, empty: &mut usize, run: PageRun, place: usize)
     requires places { ArePlaces runs.old.items }
     requires empty { IsEmptyCount empty.old runs.old.items }
     requires run { IsRun run }
@@ -207,7 +207,7 @@ pub fn put(runs: &mut RunRows, empty: &mut usize, run: PageRun)
     ensures capacity { runs.new.capacity ≡ runs.old.capacity }
 {
     squeeze_full(runs, empty);
-    let at = ended_at(runs, usize::MAX, run.first);
+    let at = ended_at(runs, place, run.first);
     if is_just(runs, at, &run) {
         runs.replace(at, run);
         return;

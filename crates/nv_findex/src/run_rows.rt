@@ -9,7 +9,7 @@ use std::alloc::{AllocError, Global};
 use std::marker::Model;
 
 /// How many runs a full row has.
-const ROW: usize = 64;
+const ROW: usize = 128;
 
 /// A list of runs in one block of memory, which lies there in rows: each full row is a ring that begins at a place of
 /// its own, and what is behind the full rows lies in order. So a run goes on to the next row without a move of others.
@@ -29,10 +29,10 @@ impl Model for RunRows {
     ghost view = { λ r.
         record { items = in_rows r.starts.items r.runs.items; capacity = vec_capacity r.runs } };
 
-    // It has as many starts as full rows of 64 page runs, each within its row.
+    // It has as many starts as full rows of 128 page runs, each within its row.
     // Where there is room for page runs, there is room for the starts of all full rows of as many.
     ghost invariant = { λ r. AreStarts r.starts.items (length r.runs.items)
-        × (vec_capacity r.runs < vec_capacity r.starts * 64 + 64) };
+        × (vec_capacity r.runs < vec_capacity r.starts * 128 + 128) };
 }
 
 /// Where the run at a place lies.

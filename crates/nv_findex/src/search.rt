@@ -69,6 +69,23 @@ fn guess(runs: &RunRows, page: u32) -> usize {
     (pages / (end as u64)) as usize
 }
 
+/// Where the border of a page would be if the runs lay evenly on both sides of the one at a place.
+fn guess_from(runs: &RunRows, place: usize, page: u32) -> usize {
+    let last = runs.len().saturating_sub(1);
+    let (Some(at), Some(end)) = (runs.get(place), runs.get(last)) else {
+        return place;
+    };
+    let steps = |pages: u32| {
+        let places_off = (pages as u64).saturating_mul(runs.len() as u64);
+        (places_off / (end.end.max(1) as u64)) as usize
+    };
+    if at.first <= page {
+        place.saturating_add(steps(page - at.first))
+    } else {
+        place.saturating_sub(steps(at.first - page))
+    }
+}
+
 /// Whether the places before one, and no others, end at or before a page.
 fn is_border(runs: &RunRows, at: usize, page: u32) -> bool
     requires places { ArePlaces runs.now.items }
@@ -84,7 +101,8 @@ fn is_border(runs: &RunRows, at: usize, page: u32) -> bool
     true
 }
 
-/// How many of the places end at or before a page. Costs the logarithm of how far off the guess is.
+/// How many of the places end at or before a page. That is guessed as if all runs lay evenly, and once more as if those
+/// around the guess did. Costs the logarithm of how far off the second guess is.
 pub fn ended_by(runs: &RunRows, page: u32) -> usize
     requires { ArePlaces runs.now.items }
     ensures within { result ≤ length runs.now.items }
@@ -95,8 +113,9 @@ pub fn ended_by(runs: &RunRows, page: u32) -> usize
     if is_border(runs, guess, page) {
         return guess;
     }
-    let low = bound_before(runs, guess, page);
-    let high = bound_behind(runs, guess, page);
+    let closer = guess_from(runs, guess, page).min(runs.len());
+    let low = bound_before(runs, closer, page);
+    let high = bound_behind(runs, closer, page);
     ended_in(runs, low, high, page)
 }
 

@@ -22,7 +22,7 @@ invariant_of-self-2 c =
     let rows = length_rows f.starts.items f.runs.items in (
       subst (λ (l : List ℕ). AreStarts l (length runs.items)) (sym c.in_ok-reserve_exact.ensures.items)
           (subst (λ (l : List PageRun). AreStarts f.starts.items (length l)) (sym done.items) c.self.invariant.0),
-      reserved_below c.reserve_exact-2.result runs.cap f.runs.cap (f.runs.len + c.args.more) (starts.cap * 64 + 64)
+      reserved_below c.reserve_exact-2.result runs.cap f.runs.cap (f.runs.len + c.args.more) (starts.cap * 128 + 128)
           done.capacity_exact done.err (omega (arith, c.self.invariant.1, room))
           (λ within. omega (arith, within, room, items, rows, c.len-2.ensures, f.runs.ok, f.starts.ok, runs.small)),
     )
