@@ -1,6 +1,6 @@
 //! Runs of blocks, and the items that put pages in them.
 
-ghost use Rattle.std.specs.Prelude.{◌≡◌, ◌+◌, ◌<◌, ◌≤◌, ◌^◌, ℕ, ◌∷◌, ◌++◌, [], IfOk, OnOk, length, option_to_list, slice_index_or};
+ghost use Rattle.std.specs.Prelude.{◌≡◌, ◌+◌, ◌<◌, ◌≤◌, ◌^◌, ℕ, ◌∷◌, ◌++◌, [], IfNone, IfOk, OnOk, length, option_to_list, slice_index_or};
 ghost use Rattle.std.specs.List.{AllByRecursion};
 ghost use Rattle.nv_alloc.specs.Block.{numbers_of};
 ghost use Rattle.nv_base.specs.declared.limits.TheConstants.{BLOCKS, FILE_PAGES};
@@ -41,7 +41,8 @@ impl RunList {
 
     /// Takes out the last run.
     fn pop(&mut self) -> Option<BlockRun>
-        ensures { self.old ≡ self.new ++ option_to_list result }
+        ensures items { self.old ≡ self.new ++ option_to_list result }
+        ensures none { IfNone result (self.new ≡ []) }
     {
         if self.others.is_empty() {
             return self.first.take();
@@ -139,12 +140,14 @@ pub(crate) fn write_items(
     ensures { IfOk result (λ items. items.items ≡ write_items first runs.now size) }
 {
     let mut items = Vec::new(alloc);
-    let Some(run) = runs.first else {
+    let Some(run) = &runs.first else {
         add_items(&mut items, first, &runs.others, size)?;
         return Ok(items);
     };
+    let page = first + run.len;
+    let run = *run;
     items.push(Item::Write { first, run, size })?;
-    add_items(&mut items, first + run.len, &runs.others, size)?;
+    add_items(&mut items, page, &runs.others, size)?;
     Ok(items)
 }
 
