@@ -1,6 +1,6 @@
 -- What is planned, cell by cell, and cells that get more room.
-use Rattle.std.proofs.Common.{◌≡◌, ◌≢◌, ℕ, zero, suc, ◌+◌, ◌<◌, ◌==◌, Bool, true, false, cond, List, [], ◌∷◌, ◌++◌, length, drop, map, arith, refl, ap, subst, sym, ◌∙◌, append_assoc, eq-eqb, get_or, slice_index_or}
-use Rattle.std.specs.List.{AllByRecursion, AllPairs, remove}
+use Rattle.std.proofs.Common.{◌≡◌, ◌≢◌, ℕ, zero, suc, ◌+◌, ◌<◌, ◌==◌, Bool, true, false, List, [], ◌∷◌, ◌++◌, length, drop, map, arith, refl, ap, subst, sym, ◌∙◌, append_assoc, eq-eqb, get_or, slice_index_or}
+use Rattle.std.specs.List.{AllByRecursion, AllPairs}
 use Rattle.std.proofs.lemmas.Bool.{eqb-false, eqb-true}
 use Rattle.nv_entry.specs.declared.item.Item.{Item}
 use Rattle.nv_cell.specs.Cell.{CellRoom, CellValue}
@@ -23,12 +23,6 @@ pub all_by : {X : Type 0} (P : X → Type 0) (xs : List X) (d : X) → ((j : ℕ
 all_by P [] d each = tt
 all_by P (x ∷ xs) d each = (each 0 (omega arith), all_by P xs d (λ j lt. each (suc j) (omega (arith, lt))))
 
-not_same : (a b : ℕ) → (a ≡ b → ⊥) → (a == b) ≡ false
-not_same a b apart = go (a == b) refl where
-  go : (x : Bool) → (a == b) ≡ x → x ≡ false
-  go true q = absurd (apart (eqb-true a b q))
-  go false q = refl
-
 apart_by : (a b : ℕ) → (a == b) ≡ false → a ≢ b
 apart_by a b q = eqb-false a b q
 
@@ -41,19 +35,6 @@ at_place (y ∷ xs) (suc i) x d lt is = at_place xs i x d (omega (arith, lt)) is
 pub map_twice : {X Y Z : Type 0} (f : Y → Z) (g : X → Y) (xs : List X) → map f (map g xs) ≡ map (λ x. f (g x)) xs
 map_twice f g [] = refl
 map_twice f g (x ∷ xs) = ap (λ zs. f (g x) ∷ zs) (map_twice f g xs)
-
--- ---- taking out what is planned for an inode
-
-pub removed : (plan : List InodePlan) (i : ℕ) (p : InodePlan) (ino other : ℕ) → i < length plan → p ≡ get_or plan i p → p.handle.ino ≡ ino
-    → (other ≡ ino → ⊥)
-    → items_for (remove plan i) other ≡ items_for plan other
-removed [] i p ino other lt is own apart = absurd (omega (arith, lt))
-removed (x ∷ plan) zero p ino other lt is own apart =
-    let same : x.handle.ino ≡ ino = ap (λ (q : InodePlan). q.handle.ino) (sym is) ∙ own in
-    ap (λ (b : Bool). cond b x.items (items_for plan other))
-    (sym (not_same x.handle.ino other (λ e. apart (sym e ∙ same))))
-removed (x ∷ plan) (suc i) p ino other lt is own apart =
-    ap (λ (items : List Item). cond (x.handle.ino == other) x.items items) (removed plan i p ino other (omega (arith, lt)) is own apart)
 
 -- ---- cell by cell
 

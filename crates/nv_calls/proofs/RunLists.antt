@@ -1,5 +1,6 @@
 -- Lists of runs that grow.
-use Rattle.std.proofs.Common.{add-one, add-zero, ◌≡◌, ℕ, zero, suc, ◌+◌, ◌<◌, ◌≤◌, List, [], ◌∷◌, ◌++◌, length, take, arith, ap, ap₂, sym, ◌∙◌, append_assoc}
+use Rattle.std.proofs.Common.{add-one, add-zero, ◌≡◌, ℕ, zero, suc, ◌+◌, ◌<◌, ◌≤◌, List, Option, Some, [], ◌∷◌, ◌++◌, length, take, arith, ap, ap₂, sym, ◌∙◌, append_assoc}
+use Rattle.std.specs.Prelude.{option_to_list}
 use Rattle.std.specs.List.{range_with_len}
 use Rattle.std.proofs.lemmas.Grind.{flat_map-append}
 use Rattle.std.proofs.lemmas.List.{append-nil, length-append}
@@ -27,6 +28,18 @@ pub count-push : (runs : List BlockRun) (run : BlockRun) → length (blocks_of (
 count-push runs run =
     ap length (blocks_of-push runs run) ∙ length-append (blocks_of runs) (range_with_len run.start run.len)
     ∙ ap (λ (n : ℕ). length (blocks_of runs) + n) (length-range_with_len run.start run.len)
+
+count-front : (run : BlockRun) (runs : List BlockRun) → length (blocks_of (run ∷ runs)) ≡ run.len + length (blocks_of runs)
+count-front run runs =
+    length-append (range_with_len run.start run.len) (blocks_of runs)
+    ∙ ap (λ (n : ℕ). n + length (blocks_of runs)) (length-range_with_len run.start run.len)
+
+-- the blocks of a list whose first run lies in place
+pub count-in_place : (first : Option BlockRun) (run : BlockRun) (others runs : List BlockRun) → first ≡ Some run
+    → option_to_list first ++ others ≡ runs → length (blocks_of runs) ≡ run.len + length (blocks_of others)
+count-in_place first run others runs is list =
+    ap (λ (xs : List BlockRun). length (blocks_of xs)) (sym list ∙ ap (λ (o : Option BlockRun). option_to_list o ++ others) is)
+    ∙ count-front run others
 
 -- a block behind a run
 pub blocks_of-join : (runs : List BlockRun) (last more : BlockRun) (block : ℕ) → last.start + last.len ≡ block → more.start ≡ last.start
@@ -77,8 +90,5 @@ pub write_items-push : (first size : ℕ) (runs : List BlockRun) (run : BlockRun
     → write_items first (runs ++ run ∷ []) size ≡ write_items first runs size ++ Write (first + length (blocks_of runs)) run size ∷ []
 write_items-push first size [] run = ap (λ (n : ℕ). let item : Item = Write n run size in item ∷ []) (omega arith)
 write_items-push first size (r ∷ runs) run =
-    let long : length (blocks_of (r ∷ runs)) ≡ r.len + length (blocks_of runs) =
-    length-append (range_with_len r.start r.len) (blocks_of runs)
-    ∙ ap (λ (n : ℕ). n + length (blocks_of runs)) (length-range_with_len r.start r.len) in
     ap (λ (xs : List Item). Write first r size ∷ xs) (write_items-push (first + r.len) size runs run
-    ∙ ap (λ (n : ℕ). write_items (first + r.len) runs size ++ Write n run size ∷ []) (omega (arith, long)))
+    ∙ ap (λ (n : ℕ). write_items (first + r.len) runs size ++ Write n run size ∷ []) (omega (arith, count-front r runs)))

@@ -1,7 +1,7 @@
 //! What a call has taken.
 
-use nv_base::{Handle, Items};
-use nv_entry::BlockRun;
+use crate::runs::RunList;
+use nv_base::Handle;
 
 /// What the items of a call are made with.
 #[derive(Debug, Drop)]
@@ -9,5 +9,5 @@ pub struct Allocation {
     /// The handle of a new inode, where the call makes one.
     pub made: Handle,
     /// Fresh blocks for its pages, in the order in which they were taken.
-    pub runs: Items<BlockRun>,
+    pub runs: RunList,
 }

@@ -76,7 +76,7 @@ pub use receipt::Receipt;
 pub use refusal::{check_early, check_late};
 pub use retire::erase_gone;
 pub use room::make_room;
-pub use runs::runs_of;
+pub use runs::{RunList, runs_of};
 pub use slot_cells::SlotCells;
 pub use slots::LockedSlots;
 pub use snapshot_or_cleaner_call::SnapshotOrCleanerCall;

@@ -51,7 +51,7 @@ pub fn plan_items<N: Nodes>(
     ensures err { FailsOnly out_of_memory result }
 {
     let made = taken.made;
-    let runs = taken.runs.as_slice();
+    let runs = &taken.runs;
     match call {
         Update::Create { dir, name, mode } => {
             create::plan(alloc, *dir, name.as_slice(), *mode, made)

@@ -1,6 +1,6 @@
 //! What makes a call ready to be committed: its items, cell by cell, and all room that they need.
 
-ghost use Rattle.std.specs.Prelude.{◌≡◌, ℕ, ◌<◌, ◌≤◌, ◌^◌, IfErr, IfOk, OnErr, OnOk, length, unwrap_or};
+ghost use Rattle.std.specs.Prelude.{◌≡◌, ◌<◌, ◌≤◌, ◌^◌, IfErr, IfOk, OnErr, OnOk, length, unwrap_or};
 ghost use Rattle.std.specs.List.{AllByRecursion, sum_by};
 ghost use Rattle.nv_alloc.specs.Block.{numbers_of};
 ghost use Rattle.nv_base.specs.Refusals.{FailsOnly};
@@ -13,15 +13,13 @@ ghost use Rattle.nv_calls.specs.Prepared.{AreReady, CanReady, HasLogPages, HasNo
 ghost use Rattle.nv_calls.specs.Nodes.{block_in};
 ghost use Rattle.nv_calls.specs.Plan.{AreMaximal, block_runs_of};
 ghost use Rattle.nv_calls.specs.Ready.{ArePlaced, need_of};
-ghost use Rattle.nv_calls.specs.Slots.{items_for};
 ghost use Rattle.nv_calls.specs.Steps.{HaveBlocks};
 
 use crate::planning::plan_items;
 use crate::runs::runs_in;
-use crate::{Allocation, CellCommit, Cells, HeldNodes, InodePlan, Ready, Update};
+use crate::{Allocation, CellCommit, Cells, HeldNodes, InodePlans, Ready, Update};
 use nv_alloc::Hand;
-use nv_base::{Fault, Gen, Handle, Ino, Items, NoMemory};
-use nv_entry::Item;
+use nv_base::{Fault, Gen, Handle, Ino, NoMemory};
 use std::alloc::{AllocError, Global};
 
 /// The handle of a new inode, where the call makes one: its number, with the generation of its slot.
@@ -64,10 +62,10 @@ fn planned_by<C: Cells>(
     update: &Update,
     made: &Option<Handle>,
     hand: &Hand,
-) -> Result<Vec<InodePlan>, Fault>
+) -> Result<InodePlans, Fault>
     requires can { CanReady (C.cells cells.now) hand.now update.now }
     requires made { made.now ≡ handle_made_by (C.cells cells.now) hand.now.ino update.now }
-    ensures ok { IfOk result (λ planned. planned.items
+    ensures ok { IfOk result (λ planned. planned
         ≡ planned_by (C.cells cells.now) hand.now update.now) }
     ensures runs { IfOk result (λ planned. let numbers = numbers_of hand.now.data.blocks in
         AreMaximal (block_runs_of numbers) × (blocks_of (block_runs_of numbers) ≡ numbers)) }
@@ -75,11 +73,10 @@ fn planned_by<C: Cells>(
 {
     let block = block_in(cells);
     let nodes = HeldNodes::new(cells);
-    let runs = Items::from_vec(runs_in(alloc, &hand.data)?);
+    let runs = runs_in(alloc, &hand.data)?;
     let made = or_none(made);
     let taken = Allocation { made, runs };
-    let planned = plan_items(alloc, block, &nodes, &taken, update)?;
-    Ok(planned.into_vec())
+    plan_items(alloc, block, &nodes, &taken, update)
 }
 
 /// A handle that leads nowhere where there is none.
@@ -95,36 +92,20 @@ fn or_none(made: &Option<Handle>) -> Handle
     }
 }
 
-/// Takes out what is planned for an inode.
-#[inline(always)]
-fn take_items(alloc: Global, planned: &mut Vec<InodePlan>, ino: Ino) -> Vec<Item>
-    ensures items { result.items ≡ items_for planned.old.items ino }
-    ensures others { (other : ℕ) → (other ≡ ino → ⊥)
-        → items_for planned.new.items other ≡ items_for planned.old.items other }
-{
-    for i in 0..planned.len() {
-        if planned[i].handle.ino == ino {
-            let InodePlan { handle: _, items } = planned.remove(i);
-            return items.into_vec();
-        }
-    }
-    Vec::new(alloc)
-}
-
 /// What is planned, cell by cell.
 fn cell_plans<C: Cells>(
     alloc: Global,
     cells: &C,
-    planned: Vec<InodePlan>,
+    planned: InodePlans,
 ) -> Result<Vec<CellCommit>, AllocError>
     requires { AreCells (C.cells cells.now) }
     ensures { IfOk result (λ plans. plans.items
-        ≡ cell_plans planned.items 0 (C.cells cells.now)) }
+        ≡ cell_plans planned 0 (C.cells cells.now)) }
 {
     let mut left = planned;
     let mut plans = Vec::new(alloc);
     for at in 0..cells.count() {
-        let items = take_items(alloc, &mut left, cells.ino(at));
+        let items = left.take(alloc, cells.ino(at));
         if !items.is_empty() {
             plans.push(CellCommit::new(alloc, at, items))?;
         }

@@ -7,7 +7,6 @@ ghost use Rattle.nv_base.specs.Memory.{out_of_memory};
 ghost use Rattle.nv_calls.specs.calls.Create.{begin_plan, create_plan, create_refusal};
 
 use crate::names::name_of;
-use crate::plan::list_of_two;
 use crate::wants::{refuse_if, want_directory, want_lawful};
 use crate::{InodePlan, InodePlans, Nodes};
 use nv_base::{Fault, Handle, Kind, Mode};
@@ -57,5 +56,5 @@ pub(crate) fn plan_new(
     let to = made;
     let bind = InodePlan::one(alloc, dir, Item::Bind { name, to })?;
     let init = InodePlan::one(alloc, made, Item::Init { kind, mode })?;
-    Ok(list_of_two(alloc, bind, init)?)
+    Ok(InodePlans::two(bind, init))
 }

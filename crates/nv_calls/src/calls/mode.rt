@@ -3,7 +3,6 @@
 ghost use Rattle.std.specs.Prelude.{◌≡◌, IfOk};
 ghost use Rattle.nv_calls.specs.calls.Mode.{mode_plan, mode_refusal};
 
-use crate::plan::list_of_one;
 use crate::wants::want_node;
 use crate::{InodePlan, InodePlans, Nodes};
 use nv_base::{Fault, Handle, Mode};
@@ -24,5 +23,5 @@ pub fn plan(alloc: Global, handle: Handle, mode: Mode) -> Result<InodePlans, All
     ensures { IfOk result (λ plan. plan ≡ mode_plan handle mode) }
 {
     let planned = InodePlan::one(alloc, handle, Item::SetMode { mode })?;
-    list_of_one(alloc, planned)
+    Ok(InodePlans::one(planned))
 }

@@ -1,18 +1,18 @@
 //! Giving a node another name.
 
-ghost use Rattle.std.specs.Prelude.{◌≡◌, [], IfOk, IsTrue};
+ghost use Rattle.std.specs.Prelude.{◌≡◌, IfOk, IsTrue, option_to_list};
 ghost use Rattle.nv_base.specs.Names.{is_lawful_name, same_name};
 ghost use Rattle.nv_base.specs.Refusals.{FailsOnly};
 ghost use Rattle.nv_base.specs.Memory.{out_of_memory};
 ghost use Rattle.nv_calls.specs.Plain.{same_handle};
 ghost use Rattle.nv_calls.specs.Refusals.{is_directory};
-ghost use Rattle.nv_calls.specs.calls.Rename.{move_plan, moved_refusal, own_place, rename_early, rename_late, rename_plan, replaced_refusal};
+ghost use Rattle.nv_calls.specs.calls.Rename.{move_plan, moved_refusal, own_place, rename_early, rename_late, rename_plan, replaced_plan, replaced_refusal};
 
 use crate::calls::lookup;
 use crate::names::name_of;
 use crate::wants::{refuse_if, want_bound, want_directory, want_lawful, want_node};
 use crate::{InodePlan, InodePlans, LookupResult, Nodes};
-use nv_base::{Fault, Handle, Items, Kind, Name};
+use nv_base::{Fault, Handle, Kind, Name};
 use nv_entry::Item;
 use std::alloc::{AllocError, Global};
 
@@ -106,21 +106,18 @@ pub fn plan(
     ensures err { FailsOnly out_of_memory result }
 {
     if is_own_place(&from, old, &to, new) {
-        return Ok(Items::empty(alloc));
+        return Ok(InodePlans::none());
     }
     let Some(moved) = looked.first else {
-        return Ok(Items::empty(alloc));
+        return Ok(InodePlans::none());
     };
     let old = name_of(alloc, old)?;
     let new = name_of(alloc, new)?;
-    let mut plan = plan_of_names(alloc, from, old, to, new, moved)?;
-    if let Some(other) = looked.second {
-        plan.push(InodePlan::one(alloc, other, Item::Gone)?)?;
-    }
-    Ok(Items::from_vec(plan))
+    let gone = plan_of_gone(alloc, looked.second)?;
+    Ok(plan_of_names(alloc, from, old, to, new, moved, gone)?)
 }
 
-/// What the two directories append; within one, both items in one log.
+/// What the two directories append, and what goes; within one directory, both items in one log.
 fn plan_of_names(
     alloc: Global,
     from: Handle,
@@ -128,24 +125,35 @@ fn plan_of_names(
     to: Handle,
     new: Name,
     moved: Handle,
-) -> Result<Vec<InodePlan>, AllocError>
-    ensures { IfOk result (λ plan. plan.items
-        ≡ move_plan (same_handle from to) from old to new moved []) }
+    gone: Option<InodePlan>,
+) -> Result<InodePlans, AllocError>
+    ensures { IfOk result (λ plan. plan
+        ≡ move_plan (same_handle from to) from old to new moved (option_to_list gone)) }
 {
-    let same = is_same(&from, &to);
     let unbind = Item::Unbind { name: old };
     let bind = Item::Bind {
         name: new,
         to: moved,
     };
-    let mut plan = Vec::new(alloc);
-    if same {
-        plan.push(InodePlan::two(alloc, from, unbind, bind)?)?;
-        return Ok(plan);
+    if is_same(&from, &to) {
+        let first = Some(InodePlan::two(alloc, from, unbind, bind)?);
+        let (second, third) = (None, gone);
+        return Ok(InodePlans { first, second, third });
     }
-    plan.push(InodePlan::one(alloc, from, unbind)?)?;
-    plan.push(InodePlan::one(alloc, to, bind)?)?;
-    Ok(plan)
+    let first = Some(InodePlan::one(alloc, from, unbind)?);
+    let second = Some(InodePlan::one(alloc, to, bind)?);
+    let third = gone;
+    Ok(InodePlans { first, second, third })
+}
+
+/// What a file appends whose name the moved one takes.
+fn plan_of_gone(alloc: Global, other: Option<Handle>) -> Result<Option<InodePlan>, AllocError>
+    ensures { IfOk result (λ gone. option_to_list gone ≡ replaced_plan other) }
+{
+    let Some(other) = other else {
+        return Ok(None);
+    };
+    Ok(Some(InodePlan::one(alloc, other, Item::Gone)?))
 }
 
 /// Whether both names are one, in one directory.

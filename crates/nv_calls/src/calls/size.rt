@@ -6,12 +6,11 @@ ghost use Rattle.nv_base.specs.declared.limits.TheConstants.{BLOCK_BYTES, FILE_P
 ghost use Rattle.nv_entry.specs.Sound.{blocks_of};
 ghost use Rattle.nv_calls.specs.calls.Size.{size_blocks, size_plan, size_refusal};
 
-use crate::plan::list_of_one;
-use crate::runs::write_items;
+use crate::runs::{RunList, write_items};
 use crate::wants::{refuse_if, want_file};
 use crate::{InodePlan, InodePlans, Nodes};
 use nv_base::{Fault, Handle, Items, limits};
-use nv_entry::{BlockRun, Item};
+use nv_entry::Item;
 use std::alloc::{AllocError, Global};
 
 /// Why a size is refused, or how many blocks it takes: one for a page that is cut.
@@ -49,7 +48,7 @@ pub fn plan(
     block: u64,
     file: Handle,
     size: u64,
-    runs: &[BlockRun],
+    runs: &RunList,
 ) -> Result<InodePlans, AllocError>
     requires some_bytes { 0 < block }
     requires fits { size / block + length (blocks_of runs.now) ≤ FILE_PAGES }
@@ -61,5 +60,5 @@ pub fn plan(
     items.push(Item::SetSize { size })?;
     let items = Items::from_vec(items);
     let handle = file;
-    list_of_one(alloc, InodePlan { handle, items })
+    Ok(InodePlans::one(InodePlan { handle, items }))
 }

@@ -7,10 +7,9 @@ ghost use Rattle.nv_base.specs.Memory.{out_of_memory};
 ghost use Rattle.nv_calls.specs.calls.Unlink.{leave_plan, unlink_late};
 
 use crate::names::name_of;
-use crate::plan::list_of_two;
 use crate::wants::{want_bound, want_file};
 use crate::{InodePlan, InodePlans, Nodes};
-use nv_base::{Fault, Handle, Items};
+use nv_base::{Fault, Handle};
 use nv_entry::Item;
 use std::alloc::Global;
 
@@ -36,10 +35,10 @@ pub fn plan(
     ensures err { FailsOnly out_of_memory result }
 {
     let Some(to) = bound else {
-        return Ok(Items::empty(alloc));
+        return Ok(InodePlans::none());
     };
     let name = name_of(alloc, name)?;
     let unbind = InodePlan::one(alloc, dir, Item::Unbind { name })?;
     let gone = InodePlan::one(alloc, to, Item::Gone)?;
-    Ok(list_of_two(alloc, unbind, gone)?)
+    Ok(InodePlans::two(unbind, gone))
 }

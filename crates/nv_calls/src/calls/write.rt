@@ -7,12 +7,10 @@ ghost use Rattle.nv_entry.specs.Bytes.{pages_touched, written};
 ghost use Rattle.nv_entry.specs.Sound.{blocks_of};
 ghost use Rattle.nv_calls.specs.calls.Write.{count_refusal, write_blocks, write_plan, write_refusal};
 
-use crate::plan::list_of_one;
-use crate::runs::write_items;
+use crate::runs::{RunList, write_items};
 use crate::wants::{refuse_if, want_file};
 use crate::{InodePlan, InodePlans, Nodes};
 use nv_base::{Fault, Handle, Items, limits};
-use nv_entry::BlockRun;
 use std::alloc::{AllocError, Global};
 
 /// Why a write is refused, or how many blocks it takes: one for each page that the text touches.
@@ -72,7 +70,7 @@ pub fn plan<N: Nodes>(
     file: Handle,
     offset: u64,
     count: u64,
-    runs: &[BlockRun],
+    runs: &RunList,
 ) -> Result<InodePlans, AllocError>
     requires some_bytes { 0 < block }
     requires end { offset + count < 2 ^ 64 }
@@ -82,13 +80,13 @@ pub fn plan<N: Nodes>(
         ≡ write_plan block (N.nodes_of nodes.now) file offset (replicate count 0) runs.now) }
 {
     if count == 0 {
-        return Ok(Items::empty(alloc));
+        return Ok(InodePlans::none());
     }
     let size = size_after(nodes.size(&file), offset, count);
     let first = (offset / block) as u32;
     let items = Items::from_vec(write_items(alloc, first, runs, size)?);
     let handle = file;
-    list_of_one(alloc, InodePlan { handle, items })
+    Ok(InodePlans::one(InodePlan { handle, items }))
 }
 
 /// The size of a file after a write.

@@ -5,7 +5,7 @@ ghost use Rattle.std.specs.Prelude.{◌≡◌, IfOk};
 use super::known::{Known, KnownNode};
 use super::refusals::{in_parts, of_a_read};
 use crate::compare::same_for;
-use nv_base::{BlockNo, Epoch, Fault, Handle, Ino, Items};
+use nv_base::{BlockNo, Epoch, Fault, Handle, Ino};
 use nv_calls::{
     Allocation, CheckEnd, InodePlan, InodePlans, Update, ends_at_check, look_all, plan_items,
     runs_of,
@@ -125,7 +125,7 @@ impl World {
         let numbers = numbers(alloc, blocks)?;
         let taken = Allocation {
             made: handle(self.logs.len() as u64),
-            runs: Items::from_vec(runs_of(alloc, &numbers)?),
+            runs: runs_of(alloc, &numbers)?,
         };
         match plan_items(alloc, block, &self.nodes, &taken, call) {
             Ok(planned) => Ok(planned),
@@ -175,7 +175,7 @@ impl World {
     /// Appends what is planned, as one commit.
     fn append(&mut self, alloc: Global, planned: InodePlans, epoch: u64) -> Result<(), Fail> {
         self.commit = self.commit.saturating_add(1);
-        let planned = planned.into_vec();
+        let planned = planned.into_vec(alloc)?;
         let places = places_by_hand(alloc, &planned)?;
         for (p, place) in planned.into_iter().zip(places) {
             let InodePlan { handle, items } = p;

@@ -11,15 +11,15 @@ plan-requires-in-Write-clause-fits g c any =
     let passed = rw c.in-Write.is at c.requires.passed in
     let wanted = rw c.in-Write.is at c.requires.wanted in
     let some = rw (sym (length-replicate {A = ℕ} c.in-Write.count 0)) at any in
-    rw c.as_slice-runs.ensures (write_within c.args.block (g.N.Nodes.nodes_of c.args.nodes.now) c.requires.some_bytes c.in-Write.file
-    c.in-Write.offset (replicate c.in-Write.count 0) false (length (blocks_of c.args.taken.now.runs)) passed wanted some)
+    write_within c.args.block (g.N.Nodes.nodes_of c.args.nodes.now) c.requires.some_bytes c.in-Write.file
+    c.in-Write.offset (replicate c.in-Write.count 0) false (length (blocks_of c.args.taken.now.runs)) passed wanted some
 
 pub plan-requires-in-Size-clause-fits : goal.plan-requires-in-Size-clause-fits
 plan-requires-in-Size-clause-fits g c =
     let passed = rw c.in-Size.is at c.requires.passed in
     let wanted = rw c.in-Size.is at c.requires.wanted in
-    rw c.as_slice-runs.ensures (size_within c.args.block (g.N.Nodes.nodes_of c.args.nodes.now) c.requires.some_bytes c.in-Size.file
-    c.in-Size.size _ (length (blocks_of c.args.taken.now.runs)) passed wanted)
+    size_within c.args.block (g.N.Nodes.nodes_of c.args.nodes.now) c.requires.some_bytes c.in-Size.file
+    c.in-Size.size _ (length (blocks_of c.args.taken.now.runs)) passed wanted
 
 pub plan-requires-in-Rename-clause-new_lawful : goal.plan-requires-in-Rename-clause-new_lawful
 plan-requires-in-Rename-clause-new_lawful g c =

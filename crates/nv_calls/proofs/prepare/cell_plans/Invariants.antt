@@ -8,7 +8,7 @@ abbrev pub invariant-loop-at : goal.invariant-loop-at
 invariant-loop-at g l =
     let cells = g.C.Cells.cells l.cells in
     record {
-      plans : l.plans.items ++ cell_plans l.fn.planned.items l.at (drop l.at cells) ≡ cell_plans l.fn.planned.items 0 cells;
-      left : (k : ℕ) → l.at ≤ k → k < length cells → items_for l.left.items (ino_at cells k) ≡ items_for l.fn.planned.items
+      plans : l.plans.items ++ cell_plans l.fn.planned l.at (drop l.at cells) ≡ cell_plans l.fn.planned 0 cells;
+      left : (k : ℕ) → l.at ≤ k → k < length cells → items_for l.left (ino_at cells k) ≡ items_for l.fn.planned
           (ino_at cells k);
     }

@@ -40,4 +40,4 @@ returns-clause-blocks c =
 
 pub returns-clause-runs : goal.returns-clause-runs
 returns-clause-runs c =
-    maximal_are c.loop-block.runs.items (numbers_of c.args.queue.now.blocks) c.loop-block.invariant.1 (returns-clause-blocks c)
+    maximal_are c.loop-block.runs (numbers_of c.args.queue.now.blocks) c.loop-block.invariant.1 (returns-clause-blocks c)

@@ -4,4 +4,4 @@ use Rattle.nv_calls.specs.Plan.{AreMaximal}
 use Rattle.nv_calls.proofs.runs.runs_in.Given as goal
 
 abbrev pub invariant-loop-block : goal.invariant-loop-block
-invariant-loop-block l = (blocks_of l.runs.items ≡ map (λ b. b.now.number) l.yielded) × AreMaximal l.runs.items
+invariant-loop-block l = (blocks_of l.runs ≡ map (λ b. b.now.number) l.yielded) × AreMaximal l.runs

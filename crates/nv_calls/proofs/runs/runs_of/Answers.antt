@@ -6,5 +6,5 @@ use Rattle.nv_calls.proofs.runs.runs_of.Goals as goal
 
 pub returns-clause-runs : goal.returns-clause-runs
 returns-clause-runs c =
-    let is : blocks_of c.loop-block.runs.items ≡ c.args.blocks.now = grind (arith, common_steps) in
-    maximal_are c.loop-block.runs.items c.args.blocks.now c.loop-block.invariant.1 is
+    let is : blocks_of c.loop-block.runs ≡ c.args.blocks.now = grind (arith, common_steps) in
+    maximal_are c.loop-block.runs c.args.blocks.now c.loop-block.invariant.1 is
