@@ -6,7 +6,7 @@ ghost use Rattle.nv_base.specs.declared.limits.TheConstants.{NUMBER};
 ghost use Rattle.nv_cell.specs.Cell.{empty_cell, log_of, no_room};
 ghost use Rattle.nv_cell.specs.Readers.{is_gone, keeps_nothing};
 
-use crate::{CellIndex, InodeCell, Marks};
+use crate::{InodeCell, Marks};
 use nv_alloc::Block;
 use nv_log::Chain;
 use std::mem;
@@ -33,7 +33,7 @@ impl InodeCell {
         clear_slots(&mut self.blocks);
         self.held = 0;
         self.generation = self.generation.next();
-        self.index = CellIndex::new(self.alloc);
+        self.index.reset(self.alloc);
         self.marks = Marks::new(self.alloc);
         self.entries = 0;
         self.parts = 0;

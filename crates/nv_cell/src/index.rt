@@ -70,6 +70,15 @@ impl CellIndex {
         }
     }
 
+    /// Forgets all keys, and lets go of the memory for them.
+    pub fn reset(&mut self, alloc: Global)
+        ensures refs { (key : KeyValue) → ref_of self.new key ≡ None }
+        ensures names { self.new.names ≡ record { names = []; reserved = None } }
+        ensures room { self.new.pages.room ≡ 0 }
+    {
+        *self = CellIndex::new(alloc);
+    }
+
     /// The part that sets the kind, if there is one.
     pub fn kind(&self) -> Option<PartRef>
         ensures { result ≡ ref_of self.now KindKey }

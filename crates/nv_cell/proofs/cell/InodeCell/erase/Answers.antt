@@ -1,4 +1,4 @@
-use Rattle.std.proofs.Common.{◌≡◌, ℕ, true, length, take, ap, sym, ◌∙◌, subst}
+use Rattle.std.proofs.Common.{rules, ◌≡◌, ℕ, true, length, take, ap, sym, ◌∙◌, subst}
 use Rattle.nv_entry.specs.Covered.{part_total}
 use Rattle.nv_cell.specs.Cell.{CellValue}
 use Rattle.nv_cell.specs.Fields.{state_in}
@@ -17,3 +17,23 @@ clear_slots-requires c =
     let all : length s.marks ≡ part_total s.chain.entries =
     inv.marks.len ∙ ap (λ (t : ℕ). part_total (take t s.chain.entries)) tail ∙ ap part_total (take_whole s.chain.entries) in
     slots_empty s.chain.entries c.self.inside.blocks.items inv.slots (none_left s inv.blocks all nothing)
+
+pub invariant_of-self : goal.invariant_of-self
+invariant_of-self c = record {
+  some = search rules;
+  pages = search rules;
+  marks = search rules;
+  blocks = search rules;
+  refs = λ key. search (rules, c.reset.ensures.refs key);
+  names = search rules;
+  ends_len = search rules;
+  ends = search rules;
+  tallied = search rules;
+  spare = search rules;
+  held = search rules;
+  slots = search rules;
+  blocks_room = search rules;
+  pages_room = search rules;
+  no_numbers = search rules;
+  no_killed = search rules;
+}
