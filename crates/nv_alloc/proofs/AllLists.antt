@@ -13,7 +13,8 @@ use Rattle.nv_alloc.specs.FreeList.{AreListsOf, FreeBlocks, IsFreeList, IsHomeLi
 use Rattle.nv_alloc.specs.Giving.{takes}
 use Rattle.nv_alloc.specs.Numbers.{has}
 use Rattle.nv_alloc.proofs.Shelves.{home_is}
-use Rattle.nv_alloc.proofs.Slots.{none_by, without_absent}
+use Rattle.nv_alloc.proofs.Slots.{without_absent}
+pub use Rattle.nv_alloc.proofs.Slots.{none_by}
 
 -- ---- one list
 
