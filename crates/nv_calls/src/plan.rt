@@ -88,7 +88,7 @@ impl InodePlans {
         Vec::new(alloc)
     }
 
-    /// The plans as a `Vec`.
+    /// The plans as a `Vec`, for which it wants memory.
     pub fn into_vec(self, alloc: Global) -> Result<Vec<InodePlan>, AllocError>
         ensures { IfOk result (λ plans. plans.items ≡ self) }
     {

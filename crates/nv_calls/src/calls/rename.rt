@@ -138,12 +138,20 @@ fn plan_of_names(
     if is_same(&from, &to) {
         let first = Some(InodePlan::two(alloc, from, unbind, bind)?);
         let (second, third) = (None, gone);
-        return Ok(InodePlans { first, second, third });
+        return Ok(InodePlans {
+            first,
+            second,
+            third,
+        });
     }
     let first = Some(InodePlan::one(alloc, from, unbind)?);
     let second = Some(InodePlan::one(alloc, to, bind)?);
     let third = gone;
-    Ok(InodePlans { first, second, third })
+    Ok(InodePlans {
+        first,
+        second,
+        third,
+    })
 }
 
 /// What a file appends whose name the moved one takes.
