@@ -18,7 +18,7 @@ use std::marker::Model;
 ///
 /// A call for one name costs the name's length and a look-up in a map of hashes, which on average doesn't grow
 /// with the names; `reserve_one` costs a move of all names besides where the map grows.
-/// An index takes one word until a name is reserved for the first time.
+/// An index takes two words, and no other memory until a name is reserved in it for the first time.
 /// Only tested: an index is `Send` and `Sync`.
 #[derive(Debug, Drop)]
 pub struct NameIndex {
@@ -149,7 +149,8 @@ impl NameIndex {
     /// name that stood reserved before. For a bound name nothing changes.
     ///
     /// Costs one look-up and a copy of the name, and a move of all names where the map grows, by steps that
-    /// double. `OutOfMemory` where the room was refused: nothing has changed.
+    /// double. The first call takes memory for the map itself besides. `OutOfMemory` where the room was refused:
+    /// nothing has changed.
     pub fn reserve_one(&mut self, name: &Name) -> Result<(), Fault>
         // One name that is not bound is reserved, and no binding changes.
         ensures names { self.new.names ≡ self.old.names }
