@@ -1,4 +1,4 @@
-use Rattle.std.proofs.Common.{◌++◌, append_assoc, sym}
+use Rattle.std.proofs.Common.{append_assoc, sym}
 use Rattle.std.specs.Prelude.{option_to_list}
 use Rattle.nv_calls.proofs.runs.RunList.push.Goals as goal
 
