@@ -11,10 +11,16 @@ import tempfile
 import threading
 import time
 
+import mounting
+
 ROOT = os.path.dirname(os.path.dirname(os.path.abspath(__file__)))
 PARTS = {}
-# The devices, as words for the program.
-DEVICES = {"large": [], "small": ["--blocks", "128", "--inodes", "64"]}
+# The devices: words for the program, and options of the mount.
+DEVICES = {
+    "large": ([], mounting.PLAIN),
+    "small": (["--blocks", "128", "--inodes", "64"], mounting.PLAIN),
+    "shared": (["--blocks", "65536", "--inodes", "4096", "--snaps", "1024"], mounting.SHARED),
+}
 
 
 def part(*programs, device="large"):

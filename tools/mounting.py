@@ -5,13 +5,17 @@ import signal
 import subprocess
 import time
 
-# What a shell does to mount a folder and to run the program: the first word is the folder, and the others are the command.
+# What a shell does to mount a folder and to run the program: the first word is the folder, the second one has options of the mount, and
+# the others are the command.
 SHELL = """
 exec 3<>/dev/fuse
-mount -i -t fuse.nova nova "$1" -o fd=3,rootmode=40000,user_id=0,group_id=0,default_permissions || exit 1
-shift
+mount -i -t fuse.nova nova "$1" -o "fd=3,rootmode=40000,user_id=0,group_id=0,$2" || exit 1
+shift 2
 exec "$@" <&3 >&3 3>&-
 """
+# The options by which the kernel asks modes and owners what a user may do, and by which others than root may enter.
+PLAIN = "default_permissions"
+SHARED = "default_permissions,allow_other"
 # For so many seconds a mount, the end of a program, or an unmount is waited for.
 PATIENCE = 120
 
@@ -36,6 +40,15 @@ def unmount(folder):
         subprocess.run(["umount", "-l", folder], check=False)
 
 
+def unmount_below(folder):
+    """Unmounts all that is mounted below a folder, the last mount first."""
+    with open("/proc/self/mountinfo", encoding="utf-8") as file:
+        folders = [line.split()[4] for line in file]
+    for mounted in reversed(folders):
+        if mounted.startswith(f"{folder}/"):
+            unmount(mounted)
+
+
 def can_mount():
     return os.geteuid() == 0 and os.path.exists("/dev/fuse")
 
@@ -43,13 +56,14 @@ def can_mount():
 class Mounted:
     """A folder with a program that answers for it. `with` leaves nothing mounted and nothing running."""
 
-    def __init__(self, folder, command, log):
-        self.folder, self.command, self.log = folder, command, log
+    def __init__(self, folder, command, log, options=PLAIN):
+        self.folder, self.command, self.log, self.options = folder, command, log, options
 
     def __enter__(self):
         os.makedirs(self.folder, exist_ok=True)
         with open(self.log, "wb") as log:
-            self.program = subprocess.Popen(["bash", "-c", SHELL, "mount", self.folder, *self.command], stderr=log, start_new_session=True)
+            words = ["bash", "-c", SHELL, "mount", self.folder, self.options, *self.command]
+            self.program = subprocess.Popen(words, stderr=log, start_new_session=True)
         try:
             wait_for("the mount", lambda: is_mounted(self.folder) or self.program.poll() is not None)
         except BaseException:

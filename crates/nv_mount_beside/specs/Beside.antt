@@ -38,6 +38,10 @@ released b = record b { opens = b.opens - 1 }
 abbrev pub named : Bool → Beside → Beside
 named is_named b = record b { nameless = not is_named }
 
+-- its name has moved or gone at a time, which is a change of its attributes alone
+abbrev pub renamed : Time → Beside → Beside
+renamed now b = record b { kept = record b.kept { changed = now } }
+
 -- what stands beside the nodes: by slot, with the times of a node of which nothing was told
 pub record AllBeside : Type 0 where
   -- when the mount began

@@ -1,4 +1,5 @@
 pub mod Beside
+pub mod Inherited
 pub mod Memory
 pub mod Names
 pub mod Outcomes

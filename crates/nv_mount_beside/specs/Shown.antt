@@ -1,5 +1,5 @@
 -- What a kernel is told of a node, and what the first reply agrees on.
-use Rattle.std.specs.Prelude.{ℕ, Bool, if◌then◌else◌, bit_and, nat_lt, Result, Ok}
+use Rattle.std.specs.Prelude.{ℕ, ◌+◌, ◌*◌, ◌/◌, ◌%◌, Bool, if◌then◌else◌, bit_and, nat_lt, Result, Ok}
 use Rattle.nv_fuse.specs.declared.attributes.Attributes.{Attributes}
 use Rattle.nv_fuse.specs.declared.attributes.Entry.{Entry}
 use Rattle.nv_fuse.specs.declared.errno.Errno.TheVariants as errno
@@ -20,6 +20,14 @@ attributes_told node shape kept nameless =
 abbrev pub attributes_if : ℕ → Shape → Kept → Bool → Result Attributes Refusal
 attributes_if node shape kept nameless =
     if nat_lt 1099511627776 shape.size then refused errno.InputOutput else Ok (attributes_told node shape kept nameless)
+
+-- a mode without set-user-id and set-group-id (octal 4000 and 2000), which are bits 11 and 10
+abbrev pub without_set_id : ℕ → ℕ
+without_set_id mode = mode / 4096 * 4096 + mode % 1024
+
+-- what a snapshot tells of kind, mode and size: none of its programs runs as another user
+abbrev pub shape_in_snapshot : Shape → Shape
+shape_in_snapshot shape = record shape { mode = without_set_id shape.mode }
 
 -- the entry of a node: names and attributes hold an hour, since only the kernel changes the world
 abbrev pub entry_of : Attributes → Entry

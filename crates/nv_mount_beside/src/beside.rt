@@ -1,7 +1,7 @@
 //! What stands beside the world of each node.
 
 ghost use Rattle.std.specs.Prelude.{◌≡◌, ◌≤◌, ◌==◌, IfOk};
-ghost use Rattle.nv_mount_beside.specs.Beside.{beside_at, changed, named, new_beside, none_beside, opened, released, with_beside};
+ghost use Rattle.nv_mount_beside.specs.Beside.{beside_at, changed, named, new_beside, none_beside, opened, released, renamed, with_beside};
 
 use nv_base::Handle;
 use nv_mount_answers::{Kept, Time};
@@ -110,6 +110,16 @@ impl Beside {
             nameless: !is_named,
             ..self
         }
+    }
+
+    /// The same once its name has moved or gone.
+    pub fn renamed(self, now: Time) -> Beside
+        // Only the time of its attributes changes.
+        ensures { result ≡ renamed now self }
+    {
+        let mut kept = self.kept;
+        kept.changed = now;
+        self.with_kept(kept)
     }
 
     /// The same with other times and owners.

@@ -2,10 +2,10 @@
 
 ghost use Rattle.std.specs.Prelude.{◌≡◌};
 ghost use Rattle.nv_mount_beside.specs.Names.{number_of};
-ghost use Rattle.nv_mount_beside.specs.Shown.{agreement_with, attributes_if, entry_of, opened_file};
+ghost use Rattle.nv_mount_beside.specs.Shown.{agreement_with, attributes_if, entry_of, opened_file, shape_in_snapshot};
 
 use crate::refusal::Refusal;
-use nv_base::Handle;
+use nv_base::{Handle, Mode};
 use nv_fuse::{Agreement, Attributes, Entry, Errno, OpenFile};
 use nv_mount_answers::{Kept, Shape, attributes_of, node_of};
 
@@ -27,6 +27,9 @@ const BYTES: u32 = 1_048_576;
 
 /// The greatest size that is told: no file has more bytes.
 const MOST: u64 = 1_099_511_627_776;
+
+/// The lower of the two bits of a mode by which a program runs as another user. Above it is the other alone.
+const SET_GROUP_ID: u16 = 0o2_000;
 
 /// The number of a node. One that has none is never told of.
 pub fn number(handle: &Handle) -> Result<u64, Refusal>
@@ -60,6 +63,15 @@ pub fn attributes(
         });
     }
     Ok(attributes)
+}
+
+/// Kind, mode and size of a node, as a snapshot tells them: a program of a snapshot runs as no other user.
+pub fn shape_in_snapshot(shape: Shape) -> Shape
+    // The mode has neither set-user-id nor set-group-id.
+    ensures { result ≡ shape_in_snapshot shape }
+{
+    let mode = Mode::checked(shape.mode.bits() % SET_GROUP_ID).unwrap();
+    Shape { mode, ..shape }
 }
 
 /// The entry of a node with these attributes.

@@ -7,23 +7,26 @@ use Rattle.nv_calls.specs.declared.call.Call.TheVariants as calls
 use Rattle.nv_entry.specs.declared.names.BoundName.{BoundName}
 use Rattle.nv_entry.specs.declared.tree.TreeNode.{TreeNode}
 use Rattle.nv_fuse.specs.declared.errno.Errno.TheVariants as errno
-use Rattle.nv_mount_answers.specs.declared.kept.Kept.{Kept}
+use Rattle.nv_mount_answers.specs.Nodes.{root}
+use Rattle.nv_mount_beside.specs.Beside.{AllBeside}
 use Rattle.nv_mount_beside.specs.Names.{checked_name, node_named, number_of, refused}
 use Rattle.nv_mount_beside.specs.declared.outcome.Outcome.{Outcome}
 use Rattle.nv_mount_beside.specs.declared.refusal.Refusal.{Refusal}
-use Rattle.nv_mounted.specs.Asks.{ask, ask_shape, names_told}
+use Rattle.nv_mounted.specs.Asks.{ask, ask_handle, ask_shape, names_told}
 use Rattle.nv_mounted.specs.Contents.{clean, cleaned}
-use Rattle.nv_mounted.specs.Dialogues.{Dialogue, Ends, Grows, and_then, ask_each}
-use Rattle.nv_mounted.specs.Listings.{ask_listing, ask_named, close_directory, dots, is_shown, list_anew, list_open, open_directory, open_under, read_directory}
-use Rattle.nv_mounted.specs.Snapshots.{ask_snapshot, ask_tree, attributes_in, drain, drop_epoch, drop_snapshot, epoch_of, make_snapshot, making, node_at, number_in, place_named, snapshots_kept, tree_or_drop, tree_told}
+use Rattle.nv_mounted.specs.Dialogues.{Dialogue, Ends, Grows, and_then, ask_each, undoing}
+use Rattle.nv_mounted.specs.KeptTrees.{ask_kept, ask_kept_tree, ask_path, ask_tree}
+use Rattle.nv_mounted.specs.Listings.{ask_listing, ask_named, close_directory, dots, is_shown, list_anew, list_open, open_directory, open_one, open_under, read_directory}
+use Rattle.nv_mounted.specs.Snapshots.{ask_snapshot, ask_snapshots, attributes_in, drain, drop_epoch, drop_snapshot, epoch_of, make_snapshot, making, node_at, number_in, place_named, read_snapshots}
 use Rattle.nv_mounted.specs.Talks.{is_file}
 use Rattle.nv_mounted.specs.declared.directories.Open.{Open}
 use Rattle.nv_mounted.specs.declared.directories.Open.TheVariants.{Closed, Unread, Read}
+use Rattle.nv_mounted.specs.declared.listing.Named.{Named}
 use Rattle.nv_mounted.specs.declared.side.Side.{Side}
 use Rattle.nv_mounted.specs.declared.snapshots.Snapshot.{Snapshot}
 use Rattle.nv_mount_laws.specs.Hidden.{KeepsHidden}
 use Rattle.nv_mount_laws.specs.Open.{LeavesOpenFiles}
-use Rattle.nv_mount_laws.proofs.NodesKept.{IsAsideRequest, LeavesNodes, OnlyAside, aside_hidden, aside_open, both_aside, both_leave}
+use Rattle.nv_mount_laws.proofs.NodesKept.{IsAsideRequest, LeavesNodes, OnlyAside, aside_hidden, aside_open, both_aside, both_leave, undone_aside}
 use Rattle.nv_mount_laws.proofs.Refused.{chosen}
 
 -- ---- directories
@@ -48,29 +51,28 @@ listing_aside dir =
     both_aside (ask_each ask_named (filter (is_shown dir) names)) _
     (each_aside ask_named named_aside (filter (is_shown dir) names)) (λ named. tt))))
 
-anew_aside : (side : Side) (dir : Handle) (file offset room : ℕ)
-    → OnlyAside (list_anew side dir file offset room)
-anew_aside side dir file offset room =
-    both_aside (ask_listing dir) _ (listing_aside dir) (λ names. tt)
+anew_aside : (side : Side) (asked : Dialogue (List Named)) (file offset room : ℕ) → OnlyAside asked
+    → OnlyAside (list_anew side asked file offset room)
+anew_aside side asked file offset room only = both_aside asked _ only (λ names. tt)
 
-anew_leaves : (side : Side) (dir : Handle) (file offset room : ℕ)
-    → LeavesNodes side (list_anew side dir file offset room)
-anew_leaves side dir file offset room =
-    both_leave side (ask_listing dir) _ (λ names. record { hidden = refl; nodes = refl })
+anew_leaves : (side : Side) (asked : Dialogue (List Named)) (file offset room : ℕ)
+    → LeavesNodes side (list_anew side asked file offset room)
+anew_leaves side asked file offset room =
+    both_leave side asked _ (λ names. record { hidden = refl; nodes = refl })
 
-list_aside : (side : Side) (dir : Handle) (file room offset : ℕ) (there : Open)
-    → OnlyAside (list_open side dir file room offset there)
-list_aside side dir file room offset Closed = tt
-list_aside side dir file room offset Unread = anew_aside side dir file offset room
-list_aside side dir file room zero (Read names) = anew_aside side dir file zero room
-list_aside side dir file room (suc offset) (Read names) = tt
+list_aside : (side : Side) (asked : Dialogue (List Named)) (file room offset : ℕ) (there : Open)
+    → OnlyAside asked → OnlyAside (list_open side asked file room offset there)
+list_aside side asked file room offset Closed only = tt
+list_aside side asked file room offset Unread only = anew_aside side asked file offset room only
+list_aside side asked file room zero (Read names) only = anew_aside side asked file zero room only
+list_aside side asked file room (suc offset) (Read names) only = tt
 
-list_leaves : (side : Side) (dir : Handle) (file room offset : ℕ) (there : Open)
-    → LeavesNodes side (list_open side dir file room offset there)
-list_leaves side dir file room offset Closed = tt
-list_leaves side dir file room offset Unread = anew_leaves side dir file offset room
-list_leaves side dir file room zero (Read names) = anew_leaves side dir file zero room
-list_leaves side dir file room (suc offset) (Read names) = record { hidden = refl; nodes = refl }
+list_leaves : (side : Side) (asked : Dialogue (List Named)) (file room offset : ℕ) (there : Open)
+    → LeavesNodes side (list_open side asked file room offset there)
+list_leaves side asked file room offset Closed = tt
+list_leaves side asked file room offset Unread = anew_leaves side asked file offset room
+list_leaves side asked file room zero (Read names) = anew_leaves side asked file zero room
+list_leaves side asked file room (suc offset) (Read names) = record { hidden = refl; nodes = refl }
 
 pub directories_open : (side : Side) (number : ℕ)
     → IsAsideRequest (open_directory side number) side
@@ -91,10 +93,12 @@ pub directories_read : (side : Side) (number file offset room : ℕ)
 directories_read side number file offset room = record {
   only =
       both_aside (Ends (node_named number)) _ tt
-      (λ dir. list_aside side dir file room offset (open_under file side.directories));
+      (λ dir. list_aside side (ask_listing dir) file room offset (open_under file side.directories)
+      (listing_aside dir));
   leaves =
       both_leave side (Ends (node_named number)) _
-      (λ dir. list_leaves side dir file room offset (open_under file side.directories));
+      (λ dir. list_leaves side (ask_listing dir) file room offset
+      (open_under file side.directories));
 }
 
 pub directories_close : (side : Side) (file : ℕ) (outcome : Outcome)
@@ -104,30 +108,55 @@ directories_close side file outcome =
 
 -- ---- snapshots
 
-drop_aside : (epoch : ℕ) (is_told : Result (List TreeNode) Refusal)
-    → OnlyAside (tree_or_drop epoch is_told)
-drop_aside epoch (Ok tree) = tt
-drop_aside epoch (Err why) = both_aside (drop_epoch epoch) _ (tt, λ answer. tt) (λ done. tt)
+path_aside : (names : List (List ℕ)) (dir : Handle) → OnlyAside (ask_path dir names)
+path_aside [] dir = tt
+path_aside (name ∷ names) dir =
+    both_aside (Grows (ask_handle (calls.Lookup dir name))) _ (tt, λ answer. tt) (λ handle.
+    path_aside names handle)
 
-making_aside : (rows : List (Option Snapshot)) (kept : Kept) (file : List ℕ)
-    → OnlyAside (making rows kept file)
-making_aside rows kept file =
+kept_aside : (nodes : AllBeside) (node : TreeNode) → OnlyAside (ask_kept nodes node)
+kept_aside nodes node =
+    both_aside (Grows (ask_path root node.path)) _ (path_aside node.path root) (λ handle. tt)
+
+tree_aside : (nodes : AllBeside) (epoch : ℕ) → OnlyAside (ask_kept_tree nodes epoch)
+tree_aside nodes epoch =
+    both_aside (ask_tree epoch) _ (tt, λ answer. tt) (λ tree.
+    both_aside (ask_each (ask_kept nodes) tree) _
+    (each_aside (ask_kept nodes) (kept_aside nodes) tree) (λ kept. tt))
+
+making_aside : (rows : List (Option Snapshot)) (nodes : AllBeside) (file : List ℕ)
+    → OnlyAside (making rows nodes file)
+making_aside rows nodes file =
     chosen (λ d. OnlyAside d) (is_ok (place_named file rows)) (Ends (refused errno.Exists)) _ tt
     (both_aside (Grows (Ends (checked_name file))) _ tt (λ name.
     both_aside (Ends (number_in (length rows) 0)) _ tt (λ number.
     both_aside (Grows ask_snapshot) _ (tt, λ answer. tt) (λ epoch.
-    both_aside (ask_tree epoch) _ (tt, λ answer. drop_aside epoch (tree_told answer)) (λ tree.
-    both_aside (Ends (and_then (node_at (length rows) 0 tree) (attributes_in number kept))) _ tt
+    both_aside (undoing (drop_epoch epoch) (ask_kept_tree nodes epoch)) _
+    (undone_aside (drop_epoch epoch) (ask_kept_tree nodes epoch) (tt, λ answer. tt)
+    (tree_aside nodes epoch)) (λ all.
+    both_aside (Ends (and_then (node_at (length rows) 0 all) (attributes_in number))) _ tt
     (λ attributes. tt))))))
 
 pub snapshots_make : (side : Side) (name : List ℕ) → IsAsideRequest (make_snapshot side name) side
 snapshots_make side name = record {
   only =
-      both_aside (making side.snapshots (snapshots_kept side) name) _
-      (making_aside side.snapshots (snapshots_kept side) name) (λ made. tt);
+      both_aside (making side.snapshots side.nodes name) _
+      (making_aside side.snapshots side.nodes name) (λ made. tt);
   leaves =
-      both_leave side (making side.snapshots (snapshots_kept side) name) _
+      both_leave side (making side.snapshots side.nodes name) _
       (λ made. record { hidden = refl; nodes = refl });
+}
+
+pub snapshots_open : (side : Side) → IsAsideRequest (open_one side) side
+snapshots_open side = record { only = tt; leaves = record { hidden = refl; nodes = refl } }
+
+pub snapshots_read : (side : Side) (file offset room : ℕ)
+    → IsAsideRequest (read_snapshots side file offset room) side
+snapshots_read side file offset room = record {
+  only =
+      list_aside side (ask_snapshots side) file room offset (open_under file side.directories) tt;
+  leaves =
+      list_leaves side (ask_snapshots side) file room offset (open_under file side.directories);
 }
 
 pub snapshots_drop : (side : Side) (name : List ℕ) → IsAsideRequest (drop_snapshot side name) side

@@ -64,7 +64,7 @@ made_asked old new c handle (result, between, called, (is, same)) =
 
 -- ---- a shape
 
-stat_is : (result : Result Answer Fault) (shape : Shape) → shape_told result ≡ Ok shape
+pub stat_is : (result : Result Answer Fault) (shape : Shape) → shape_told result ≡ Ok shape
     → (commit : ℕ) × (result ≡ Ok (answers.Stat shape.kind shape.mode shape.size commit))
 stat_is (Ok (answers.Stat kind mode size commit)) shape e =
     let same : (let s : Shape = record { kind = kind; mode = mode; size = size } in s) ≡ shape =

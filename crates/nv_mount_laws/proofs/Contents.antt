@@ -17,7 +17,7 @@ use Rattle.nv_effects.specs.Effects.{HasEffect, changed}
 use Rattle.nv_effects.proofs.Effects.{calls_have_effects}
 use Rattle.nv_mount_beside.specs.Names.{hidden, node_named}
 use Rattle.nv_mount_beside.specs.declared.refusal.Refusal.{Refusal}
-use Rattle.nv_mounted.specs.Dialogues.{◌>>=◌, Asks, Dialogue, Ends, Grows, IsHad}
+use Rattle.nv_mounted.specs.Dialogues.{◌>>=◌, Asks, Dialogue, Ends, Grows, GrowsOr, IsHad}
 use Rattle.nv_mounted.specs.declared.side.Side.{Side}
 use Rattle.nv_serial.specs.OneCall.{serial_call}
 use Rattle.nv_serial.specs.Serial.{Serial, copies_now, told}
@@ -157,6 +157,7 @@ IsOf handle other = ⊥
 abbrev pub OnlyOf : {A : Type 0} → Handle → Dialogue A → Type 0
 OnlyOf handle (Ends is_told) = Unit {0}
 OnlyOf handle (Grows rest) = OnlyOf handle rest
+OnlyOf handle (GrowsOr refused rest) = OnlyOf handle refused × OnlyOf handle rest
 OnlyOf handle (Asks call rest) = IsOf handle call
     × ((answer : Result Answer Fault) → OnlyOf handle (rest answer))
 
@@ -240,6 +241,10 @@ only_keeps handle (Ends is_told) only old new end had = same_others handle old n
 only_keeps handle (Grows rest) only old new end (inl had) = same_others handle old new had.1
 only_keeps handle (Grows rest) only old new end (inr had) =
     only_keeps handle rest only old new end had
+only_keeps handle (GrowsOr refused rest) only old new end (inl had) =
+    only_keeps handle refused only.0 old new end had
+only_keeps handle (GrowsOr refused rest) only old new end (inr had) =
+    only_keeps handle rest only.1 old new end had
 only_keeps handle (Asks call rest) only old new end had =
     others_twice handle old had.1 new (called_keeps handle call old had.1 had.0 only.0 had.2)
     (only_keeps handle (rest had.0) (only.1 had.0) had.1 new end had.3)
@@ -252,6 +257,8 @@ unfolding ◌>>=◌
 both_of handle (Ends (Ok a)) next first after = after a
 both_of handle (Ends (Err why)) next first after = tt
 both_of handle (Grows rest) next first after = both_of handle rest next first after
+both_of handle (GrowsOr refused rest) next first after =
+    (both_of handle refused next first.0 after, both_of handle rest next first.1 after)
 both_of handle (Asks call rest) next first after =
     (first.0, λ answer. both_of handle (rest answer) next (first.1 answer) after)
 

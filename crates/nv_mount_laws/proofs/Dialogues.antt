@@ -5,7 +5,7 @@ use Rattle.nv_calls.specs.declared.answer.Answer.{Answer}
 use Rattle.nv_calls.specs.declared.call.Call.{Call}
 use Rattle.nv_mount_beside.specs.Memory.{no_memory}
 use Rattle.nv_mount_beside.specs.declared.refusal.Refusal.{Refusal}
-use Rattle.nv_mounted.specs.Dialogues.{Asks, Dialogue, Ends, Grows, IsHad, ◌>>=◌}
+use Rattle.nv_mounted.specs.Dialogues.{Asks, Dialogue, Ends, Grows, GrowsOr, IsHad, ◌>>=◌}
 
 -- the value of a result, or another one where it is a refusal
 abbrev value_of : {A : Type 0} → A → Result A Refusal → A
@@ -66,6 +66,18 @@ module _ {W A B : Type 0} (Tells : W → Call → Result Answer Fault → W → 
           inr on.first;
       then = on.then;
     })
+    later (inr stop) = inr (record { why = stop.why; first = inr stop.first; is = stop.is })
+  parts (GrowsOr refused rest) old new end (inl had) = later (parts refused old new end had) where
+    later : GoesOn refused old end new ⊎ Stops refused old end new
+        → GoesOn (GrowsOr refused rest) old end new ⊎ Stops (GrowsOr refused rest) old end new
+    later (inl on) = inl (record
+        { value = on.value; between = on.between; first = inl on.first; then = on.then })
+    later (inr stop) = inr (record { why = stop.why; first = inl stop.first; is = stop.is })
+  parts (GrowsOr refused rest) old new end (inr had) = later (parts rest old new end had) where
+    later : GoesOn rest old end new ⊎ Stops rest old end new
+        → GoesOn (GrowsOr refused rest) old end new ⊎ Stops (GrowsOr refused rest) old end new
+    later (inl on) = inl (record
+        { value = on.value; between = on.between; first = inr on.first; then = on.then })
     later (inr stop) = inr (record { why = stop.why; first = inr stop.first; is = stop.is })
   parts (Asks call rest) old new end had = later (parts (rest had.0) had.1 new end had.3) where
     later : GoesOn (rest had.0) had.1 end new ⊎ Stops (rest had.0) had.1 end new

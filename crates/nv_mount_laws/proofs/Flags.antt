@@ -6,8 +6,9 @@ use Rattle.nv_calls.proofs.CheckEnds.{handle_is}
 use Rattle.nv_entry.specs.declared.node.NodeCopy.{NodeCopy}
 use Rattle.nv_machine.proofs.DirectoriesStay.{same_self}
 use Rattle.nv_mount_answers.specs.declared.kept.Time.{Time}
-use Rattle.nv_mount_beside.specs.Beside.{beside_at, changed, with_beside}
+use Rattle.nv_mount_beside.specs.Beside.{beside_at, changed, renamed, with_beside}
 use Rattle.nv_mount_beside.specs.declared.beside.Beside.{Beside}
+use Rattle.nv_mounted.specs.Renames.{moved_now}
 use Rattle.nv_mounted.specs.Side.{at_node, touched}
 use Rattle.nv_mounted.specs.declared.side.Side.{Side}
 use Rattle.nv_serial.specs.Serial.{Serial, copies_now}
@@ -150,3 +151,23 @@ touched_keeps s well side rows now at node there =
     put_keeps s well side rows at node there (changed now (at_node side at))
     (beside_generation side.nodes at) refl refl
     (touched now at side) refl refl
+
+-- so is a node that has moved
+pub moved_keeps : (s : Serial) → IsWell s → (side : Side)
+    → length s.slots ≤ length side.nodes.rows → (now : Time) (at : Handle) (node : NodeCopy)
+    → copies_now s at ≡ Some node → KeepsFlags s side (moved_now now at side)
+moved_keeps s well side rows now at node there =
+    put_keeps s well side rows at node there (renamed now (at_node side at))
+    (beside_generation side.nodes at) refl refl
+    (moved_now now at side) refl refl
+
+-- what is left of the nodes keeps its flags
+pub left_keeps : (s u : Serial) (old new : Side) → KeepsFlags s old new
+    → ((handle : Handle) (node : NodeCopy) → copies_now u handle ≡ Some node
+    → (n : NodeCopy) × (copies_now s handle ≡ Some n)) → KeepsFlags u old new
+left_keeps s u old new flags were = record {
+  hidden = flags.hidden;
+  rows = flags.rows;
+  there = λ handle node is. let was = were handle node is in flags.there handle was.0 was.1;
+  before = flags.before;
+}

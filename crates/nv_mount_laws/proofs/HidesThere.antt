@@ -7,11 +7,11 @@ use Rattle.nv_calls.specs.declared.call.Call.TheVariants as calls
 use Rattle.nv_entry.specs.declared.node.NodeCopy.{NodeCopy}
 use Rattle.nv_effects.specs.Effects.{HasEffect}
 use Rattle.nv_effects.proofs.Effects.{calls_have_effects}
-use Rattle.nv_mount_beside.specs.Beside.{named}
+use Rattle.nv_mount_answers.specs.declared.kept.Time.{Time}
+use Rattle.nv_mount_beside.specs.Beside.{named, renamed}
 use Rattle.nv_mount_beside.specs.declared.beside.Beside.{Beside}
-use Rattle.nv_mounted.specs.Renames.{hidden_now}
 use Rattle.nv_mounted.specs.Side.{at_node}
-use Rattle.nv_mounted.specs.Talks.{hidden_name_for}
+use Rattle.nv_mounted.specs.Talks.{hidden_name_for, hidden_now}
 use Rattle.nv_mounted.specs.declared.side.Side.{Side}
 use Rattle.nv_serial.specs.Serial.{Serial, copies_now}
 use Rattle.nv_mount_laws.specs.Hidden.{AreHidden}
@@ -31,7 +31,7 @@ use Rattle.nv_mount_laws.proofs.UnlinkHidden.{KeepsOpenFiles}
 some_is : {A : Type 0} {a b : A} → Some a ≡ Some b → a ≡ b
 some_is e = cc
 
-module _ (old new : Serial) (side : Side) (dir : Handle) (name : List ℕ) (there : Handle)
+module _ (old new : Serial) (side : Side) (now : Time) (dir : Handle) (name : List ℕ) (there : Handle)
     (more : List ℕ) (was : AreHidden old side) (well : IsWell old) (not_dir : dir ≢ side.hidden)
     (is : IsOpenThere old side dir name there) (numbered : hidden_name_for there ≡ Ok more)
     (away : Answered old (calls.Rename dir name side.hidden more) new) where
@@ -64,10 +64,10 @@ module _ (old new : Serial) (side : Side) (dir : Handle) (name : List ℕ) (ther
   -- ---- what stands beside it then
 
   abbrev after : Side
-  after = hidden_now side there
+  after = hidden_now now there side
 
   abbrev b : Beside
-  b = named false (at_node side there)
+  b = renamed now (named false (at_node side there))
 
   node : (n : NodeCopy) × (copies_now old there ≡ Some n)
   node = there_by File (copies_now old there) is.file

@@ -15,7 +15,7 @@ use Rattle.nv_mount_beside.specs.declared.outcome.Outcome.{Outcome}
 use Rattle.nv_mount_beside.specs.declared.refusal.Refusal.{Refusal}
 use Rattle.nv_mounted.specs.Asks.{ask_done}
 use Rattle.nv_mounted.specs.Dialogues.{Dialogue, Ends, Grows, IsHad, ◌>>=◌}
-use Rattle.nv_mounted.specs.Renames.{both_touched}
+use Rattle.nv_mounted.specs.Renames.{all_touched, both_touched, moved_now}
 use Rattle.nv_mounted.specs.Side.{at_node, touched}
 use Rattle.nv_mounted.specs.declared.side.Side.{Side}
 use Rattle.nv_serial.specs.Serial.{Serial, copies_now}
@@ -23,7 +23,7 @@ use Rattle.nv_mount_laws.specs.Hidden.{AreHidden}
 use Rattle.nv_mount_laws.specs.World.{Calls}
 use Rattle.nv_mount_laws.proofs.Asked.{Answered, done_asked}
 use Rattle.nv_mount_laws.proofs.Dialogues.{GoesOn, Stops, parts}
-use Rattle.nv_mount_laws.proofs.Flags.{KeepsFlags, flags_twice, touched_keeps}
+use Rattle.nv_mount_laws.proofs.Flags.{KeepsFlags, flags_twice, moved_keeps, touched_keeps}
 use Rattle.nv_mount_laws.proofs.ReadingOnly.{OnlyReads, reads_same}
 use Rattle.nv_mount_laws.proofs.Standing.{IsWell}
 use Rattle.nv_mount_laws.proofs.UnlinkHidden.{KeepsOpenFiles}
@@ -60,6 +60,18 @@ both_keep s well side rows now from to m n from_is to_is =
     let second = touched_keeps s well between
     (subst (λ (k : ℕ). length s.slots ≤ k) (sym first.rows) rows) now to n to_is in
     flags_twice s side between (touched now to between) first second
+
+-- these, and the node that moved
+pub all_keep : (s : Serial) → IsWell s → (side : Side) → length s.slots ≤ length side.nodes.rows
+    → (now : Time) (moved from to : Handle) (k m n : NodeCopy) → copies_now s moved ≡ Some k
+    → copies_now s from ≡ Some m → copies_now s to ≡ Some n
+    → KeepsFlags s side (all_touched now moved from to side)
+all_keep s well side rows now moved from to k m n moved_is from_is to_is =
+    let between = both_touched now from to side in
+    let first = both_keep s well side rows now from to m n from_is to_is in
+    let second = moved_keeps s well between
+    (subst (λ (k : ℕ). length s.slots ≤ k) (sym first.rows) rows) now moved k moved_is in
+    flags_twice s side between (moved_now now moved between) first second
 
 -- ---- what a request leaves
 

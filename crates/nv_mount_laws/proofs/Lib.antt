@@ -41,6 +41,10 @@ pub mod Replaced
 pub mod Requests
 pub mod Rows
 pub mod Sets
+pub mod SnapshotKept
+pub mod SnapshotMade
+pub mod SnapshotPaths
+pub mod SnapshotTells
 pub mod Standing
 pub mod Stays
 pub mod UnlinkHidden

@@ -11,15 +11,17 @@ use Rattle.nv_fuse.specs.declared.errno.Errno.TheVariants as errno
 use Rattle.nv_fuse.specs.declared.header.Header.{Header}
 use Rattle.nv_mount_answers.specs.Kept.{attributes_of}
 use Rattle.nv_mount_answers.specs.declared.kept.Time.{Time}
+use Rattle.nv_mount_beside.specs.Inherited.{mode_in}
 use Rattle.nv_mount_beside.specs.Names.{free_name, node_named, number_of, refused}
 use Rattle.nv_mount_beside.specs.Shown.{entry_of, opened_file}
 use Rattle.nv_mount_beside.specs.declared.beside.Beside.{Beside}
+use Rattle.nv_mount_beside.specs.declared.inherited.Owner.{Owner}
 use Rattle.nv_mount_beside.specs.declared.outcome.Outcome.{Outcome}
 use Rattle.nv_mount_beside.specs.declared.outcome.Outcome.TheVariants as outcomes
 use Rattle.nv_mount_beside.specs.declared.refusal.Refusal.{Refusal}
-use Rattle.nv_mounted.specs.Asks.{ask_handle}
+use Rattle.nv_mounted.specs.Asks.{ask_handle, ask_shape}
 use Rattle.nv_mounted.specs.Dialogues.{Dialogue, Ends, Grows, IsHad, ◌>>=◌}
-use Rattle.nv_mounted.specs.Makings.{create, empty_shape, made_beside, make, makes_file, making, mkdir, mknod, permissions}
+use Rattle.nv_mounted.specs.Makings.{create, empty_shape, made_beside, make, makes_file, making, mkdir, mknod, owner_made, permissions}
 use Rattle.nv_mounted.specs.Side.{at_node, put_node, touched, with_side}
 use Rattle.nv_mounted.specs.declared.side.Side.{Side}
 use Rattle.nv_serial.specs.OneCall.{serial_call}
@@ -28,7 +30,7 @@ use Rattle.nv_mount_laws.specs.Hidden.{AreHidden, KeepsHidden, NamesAnother}
 use Rattle.nv_mount_laws.specs.Numbers.{TellsMade, number_told}
 use Rattle.nv_mount_laws.specs.Open.{LeavesOpenFiles, LeavesOpens, OpensMade}
 use Rattle.nv_mount_laws.specs.World.{CanStand, Calls}
-use Rattle.nv_mount_laws.proofs.Asked.{grown, made_asked}
+use Rattle.nv_mount_laws.proofs.Asked.{grown, made_asked, shape_asked}
 use Rattle.nv_mount_laws.proofs.Contents.{flags_count}
 use Rattle.nv_mount_laws.proofs.Dialogues.{first_told, side_told, went_on}
 use Rattle.nv_mount_laws.proofs.Flags.{KeepsFlags}
@@ -56,13 +58,15 @@ module _ (side : Side) (now : Time) (header : Header) (kind : Kind) (mode : ℕ)
   record Made (old new : Serial) (attributes : Attributes) (new_side : Side) : Type 0 where
     dir : Handle
     dir_is : node_named header.node ≡ Ok dir
+    bits : ℕ
+    owner : Owner
     name : List ℕ
     free : free_name dir file ≡ Ok name
     handle : Handle
     numbered : number_of handle ≡ Ok attributes.inode
-    made : serial_call old 0 (making kind dir name (permissions mode))
+    made : serial_call old 0 (making kind dir name (permissions bits))
         ≡ told (answers.Made handle) new
-    side_is : new_side ≡ touched now dir (put_node handle (made_beside now header opens handle)
+    side_is : new_side ≡ touched now dir (put_node handle (made_beside now owner opens handle)
         side)
     stands : CanStand new
 
@@ -72,31 +76,38 @@ module _ (side : Side) (now : Time) (header : Header) (kind : Kind) (mode : ℕ)
   made_so old new attributes new_side stands had =
       let a = went_on Calls _ (Ends (node_named header.node)) old new (attributes, new_side) had in
       let dir = a.value in
-      let b = went_on Calls _ (Grows (Ends (free_name dir file))) a.between new
-      (attributes, new_side) a.then in
+      let p = went_on Calls _ (ask_shape dir) a.between new (attributes, new_side) a.then in
+      let bits : ℕ = mode_in p.value.mode kind mode in
+      let owner : Owner = owner_made side dir p.value.mode header in
+      let at_p : p.between ≡ old = (shape_asked a.between p.between dir p.value p.first).1
+      ∙ a.first.1 in
+      let b = went_on Calls _ (Grows (Ends (free_name dir file))) p.between new
+      (attributes, new_side) p.then in
       let name = b.value in
-      let so = grown (free_name dir file) a.between b.between name b.first in
-      let c = went_on Calls _ (ask_handle (making kind dir name (permissions mode))) b.between new
+      let so = grown (free_name dir file) p.between b.between name b.first in
+      let c = went_on Calls _ (ask_handle (making kind dir name (permissions bits))) b.between new
       (attributes, new_side) b.then in
       let handle = c.value in
-      let asked = made_asked b.between c.between (making kind dir name (permissions mode)) handle
+      let asked = made_asked b.between c.between (making kind dir name (permissions bits)) handle
       c.first in
       let d = went_on Calls _ (Ends (number_of handle)) c.between new (attributes, new_side) c.then
       in
       let at_new : new ≡ c.between = d.then.1 ∙ d.first.1 in
-      let beside : Beside = made_beside now header opens handle in
-      let as_told = attributes_of d.value (empty_shape kind mode) beside.kept in
+      let beside : Beside = made_beside now owner opens handle in
+      let as_told = attributes_of d.value (empty_shape kind bits) beside.kept in
       let after = touched now dir (put_node handle beside side) in
       let is : attributes ≡ as_told = first_told attributes as_told new_side after d.then.0 in
       record {
         dir = dir;
         dir_is = sym a.first.0;
+        bits = bits;
+        owner = owner;
         name = name;
         free = so.0;
         handle = handle;
         numbered = sym d.first.0 ∙ ap (λ (a : Attributes). Ok a.inode) (sym is);
-        made = subst (λ (s : Serial). serial_call s 0 (making kind dir name (permissions mode))
-            ≡ told (answers.Made handle) new) (so.1 ∙ a.first.1)
+        made = subst (λ (s : Serial). serial_call s 0 (making kind dir name (permissions bits))
+            ≡ told (answers.Made handle) new) (so.1 ∙ at_p)
             (asked ∙ ap (λ (s : Serial). told (answers.Made handle) s) (sym at_new));
         side_is = side_told attributes as_told new_side after d.then.0;
         stands = stands_after making_of old new (Ok (attributes, new_side)) stands had;
@@ -110,8 +121,8 @@ module _ (side : Side) (now : Time) (header : Header) (kind : Kind) (mode : ℕ)
     abbrev well_new : IsWell new
     well_new = stands_well new done.stands
 
-    makes : Makes old new kind done.dir done.name (permissions mode) done.handle
-    makes = made_by old new well kind done.dir done.name (permissions mode) done.handle done.made
+    makes : Makes old new kind done.dir done.name (permissions done.bits) done.handle
+    makes = made_by old new well kind done.dir done.name (permissions done.bits) done.handle done.made
 
     -- the name leads to what was made
     make_named : (dir : Handle) → node_named header.node ≡ Ok dir
@@ -121,35 +132,35 @@ module _ (side : Side) (now : Time) (header : Header) (kind : Kind) (mode : ℕ)
         ∙ done.dir_is in cc) in
         ap (λ (d : Handle). lookup (copies_now new) d file) one
         ∙ ap (lookup (copies_now new) done.dir) (free_is done.dir file done.name done.free).1
-        ∙ made_named old new kind done.dir done.name (permissions mode) done.handle makes
+        ∙ made_named old new kind done.dir done.name (permissions done.bits) done.handle makes
 
     module _ (was : AreHidden old side) where
       make_flags : KeepsFlags old side new_side
       make_flags =
           subst (λ (s : Side). KeepsFlags old side s) (sym done.side_is)
-          (made_flags old new side was well_new kind done.dir done.name (permissions mode)
-          done.handle makes now header opens)
+          (made_flags old new side was well_new kind done.dir done.name (permissions done.bits)
+          done.handle makes now done.owner opens)
 
       make_hidden : NamesAnother side header.node → AreHidden new new_side
       make_hidden another =
           let not_hidden : done.dir ≢ side.hidden = (λ same. another
           (done.dir_is ∙ ap (λ (h : Handle). Ok h) same)) in
-          making_hidden old new kind done.dir done.name (permissions mode) done.handle makes side
+          making_hidden old new kind done.dir done.name (permissions done.bits) done.handle makes side
           new_side was well not_hidden (not_reserved done.dir file done.name done.free) make_flags
           (λ nameless. made_nameless old new side was well_new kind done.dir done.name
-          (permissions mode) done.handle makes now header opens
+          (permissions done.bits) done.handle makes now done.owner opens
           (ap (λ (s : Side). (at_node s done.handle).nameless) (sym done.side_is) ∙ nameless))
 
       -- the node of the name is so often open
       make_opened : (dir made : Handle) → node_named header.node ≡ Ok dir
           → lookup (copies_now new) dir file ≡ Some made
-          → (at_node new_side made).opens ≡ (made_beside now header opens done.handle).opens
+          → (at_node new_side made).opens ≡ (made_beside now done.owner opens done.handle).opens
       make_opened dir made dir_is bound =
           let same : made ≡ done.handle = some_is (sym bound ∙ make_named dir dir_is) in
           ap (λ (h : Handle). (at_node new_side h).opens) same
           ∙ ap (λ (s : Side). (at_node s done.handle).opens) done.side_is
-          ∙ made_open old new side was well_new kind done.dir done.name (permissions mode)
-          done.handle makes now header opens
+          ∙ made_open old new side was well_new kind done.dir done.name (permissions done.bits)
+          done.handle makes now done.owner opens
 
 -- ---- the requests
 
@@ -207,7 +218,7 @@ module _ (side : Side) (now : Time) (header : Header) (kind : Kind) (mode : ℕ)
 
   -- a making that was refused has made nothing, or a node without a number
   keeps : ((old new : Serial) (why : Refusal) → IsHad Calls talk old (Err why) new
-      → (new ≡ old) ⊎ Unnumbered header.node kind (permissions mode) file old new)
+      → (new ≡ old) ⊎ Unnumbered header.node kind file old new)
       → NamesAnother side header.node → KeepsHidden talk side
   keeps refused_so another old new new_side (Ok outcome) stands was does =
       make_hidden side now header kind mode file opens old new
@@ -216,20 +227,20 @@ module _ (side : Side) (now : Time) (header : Header) (kind : Kind) (mode : ℕ)
   keeps refused_so another old new new_side (Err why) stands was does =
       subst (λ (s : Side). AreHidden new s) (sym does.same)
       (go (refused_so old new why does.had)) where
-        go : (new ≡ old) ⊎ Unnumbered header.node kind (permissions mode) file old new
+        go : (new ≡ old) ⊎ Unnumbered header.node kind file old new
             → AreHidden new side
         go (inl same) = subst (λ (s : Serial). AreHidden s side) (sym same) was
-        go (inr done) = unnumbered_hidden header.node kind (permissions mode) file old new side was
+        go (inr done) = unnumbered_hidden header.node kind file old new side was
             (stands_well old stands) another done
 
   opens_it : (count : ℕ)
-      → ((handle : Handle) → (made_beside now header opens handle).opens ≡ count)
+      → ((owner : Owner) (handle : Handle) → (made_beside now owner opens handle).opens ≡ count)
       → OpensMade talk side header.node file count
   opens_it count is old new new_side outcome stands was does dir made dir_is bound =
       let done = made_of old new outcome new_side stands does.had in
       make_opened side now header kind mode file opens old new
       (by old new outcome new_side does.had).attributes new_side stands done was dir made dir_is
-      bound ∙ is done.handle
+      bound ∙ is done.owner done.handle
 
   tells : TellsMade talk side header.node file
   tells old new new_side outcome stands does dir dir_is =
@@ -321,7 +332,7 @@ module _ (side : Side) (now : Time) (header : Header) (mode : ℕ) (file : List 
   pub creates_open : OpensMade (create side now header mode file) side header.node file 1
   creates_open =
       opens_it side now header kinds.File mode file true (create side now header mode file)
-      create_by 1 (λ handle. refl)
+      create_by 1 (λ owner handle. refl)
 
   pub mknods_keep : NamesAnother side header.node
       → KeepsHidden (mknod side now header mode file) side
@@ -343,7 +354,7 @@ module _ (side : Side) (now : Time) (header : Header) (mode : ℕ) (file : List 
   pub mknods_open : OpensMade (mknod side now header mode file) side header.node file 0
   mknods_open =
       opens_it side now header kinds.File mode file false (mknod side now header mode file) mknod_by
-      0 (λ handle. refl)
+      0 (λ owner handle. refl)
 
   pub mkdirs_tell : TellsMade (mkdir side now header mode file) side header.node file
   mkdirs_tell = tells side now header kinds.Dir mode file false

@@ -12,11 +12,13 @@ use Rattle.nv_entry.specs.declared.node.NodeCopy.{NodeCopy}
 use Rattle.nv_effects.proofs.Effects.{calls_have_effects}
 use Rattle.nv_fuse.specs.declared.header.Header.{Header}
 use Rattle.nv_mount_answers.specs.declared.kept.Time.{Time}
+use Rattle.nv_mount_beside.specs.Inherited.{mode_in}
 use Rattle.nv_mount_beside.specs.Names.{free_name, node_named, number_of}
+use Rattle.nv_mount_beside.specs.declared.inherited.Owner.{Owner}
 use Rattle.nv_mount_beside.specs.declared.refusal.Refusal.{Refusal}
-use Rattle.nv_mounted.specs.Asks.{ask_handle}
-use Rattle.nv_mounted.specs.Dialogues.{Asks, Dialogue, Ends, Grows, IsHad, ◌>>=◌}
-use Rattle.nv_mounted.specs.Makings.{make, making, permissions}
+use Rattle.nv_mounted.specs.Asks.{ask_handle, ask_shape}
+use Rattle.nv_mounted.specs.Dialogues.{Asks, Dialogue, Ends, Grows, GrowsOr, IsHad, ◌>>=◌}
+use Rattle.nv_mounted.specs.Makings.{make, make_owned, making, owner_made, permissions}
 use Rattle.nv_mounted.specs.declared.side.Side.{Side}
 use Rattle.nv_serial.specs.OneCall.{serial_call}
 use Rattle.nv_serial.specs.Serial.{Serial, copies_now, told}
@@ -42,8 +44,9 @@ made_files old new kind dir name mode made makes handle node is file =
     (ap (λ (h : Handle). h.ino) same)) in
     makes.same handle not_dir not_made ∙ is
 
--- a call that makes a node
+-- a call that makes a node, or tells of one
 abbrev IsMaking : Call → Type 0
+IsMaking (calls.Stat of) = Unit {0}
 IsMaking (calls.Create dir name mode) = Unit {0}
 IsMaking (calls.Mkdir dir name mode) = Unit {0}
 IsMaking other = ⊥
@@ -52,11 +55,16 @@ IsMaking other = ⊥
 abbrev pub OnlyMakes : {A : Type 0} → Dialogue A → Type 0
 OnlyMakes (Ends is_told) = Unit {0}
 OnlyMakes (Grows rest) = OnlyMakes rest
+OnlyMakes (GrowsOr refused rest) = OnlyMakes refused × OnlyMakes rest
 OnlyMakes (Asks call rest) = IsMaking call
     × ((answer : Result Answer Fault) → OnlyMakes (rest answer))
 
 made_call : (old new : Serial) (c : Call) (a : Answer) → IsWell old → IsMaking c
     → serial_call old 0 c ≡ told a new → KeepsFiles old new
+made_call old new (calls.Stat of) a well making_so is =
+    let same : new ≡ old =
+    (calls_have_effects old new 0 (calls.Stat of) a refl is).1.same refl in
+    λ handle node there file. ap (λ (s : Serial). copies_now s handle) same ∙ there
 made_call old new (calls.Create dir name mode) a well making_so is =
     let has = calls_have_effects old new 0 (calls.Create dir name mode) a refl is in
     made_files old new kinds.File dir name mode has.0
@@ -85,6 +93,10 @@ makes_stay (Grows rest) only old new end stands (inl had) handle node is file =
     ap (λ (s : Serial). copies_now s handle) had.1 ∙ is
 makes_stay (Grows rest) only old new end stands (inr had) handle node is file =
     makes_stay rest only old new end stands had handle node is file
+makes_stay (GrowsOr refused rest) only old new end stands (inl had) handle node is file =
+    makes_stay refused only.0 old new end stands had handle node is file
+makes_stay (GrowsOr refused rest) only old new end stands (inr had) handle node is file =
+    makes_stay rest only.1 old new end stands had handle node is file
 makes_stay (Asks call rest) only old new end stands had handle node is file =
     makes_stay (rest had.0) (only.1 had.0) had.1 new end had.2.stands had.3 handle node
     (called old had.1 call had.0 stands only.0 had.2 handle node is file) file
@@ -96,6 +108,8 @@ unfolding ◌>>=◌
 both_make (Ends (Ok a)) next first then = then a
 both_make (Ends (Err why)) next first then = tt
 both_make (Grows rest) next first then = both_make rest next first then
+both_make (GrowsOr refused rest) next first then =
+    (both_make refused next first.0 then, both_make rest next first.1 then)
 both_make (Asks call rest) next first then =
     (first.0, λ answer. both_make (rest answer) next (first.1 answer) then)
 
@@ -105,11 +119,19 @@ is_making kinds.File dir name mode = tt
 is_making kinds.Dir dir name mode = tt
 
 -- a making makes nodes
+owned_only : (side : Side) (now : Time) (dir : Handle) (owner : Owner) (kind : Kind) (mode : ℕ)
+    (file : List ℕ) (opens : Bool)
+    → OnlyMakes (make_owned side now dir owner kind mode file opens)
+owned_only side now dir owner kind mode file opens =
+    both_make (Grows (Ends (free_name dir file))) _ tt (λ name.
+    both_make (ask_handle (making kind dir name (permissions mode))) _
+    (is_making kind dir name (permissions mode), λ answer. tt) (λ handle.
+    both_make (Ends (number_of handle)) _ tt (λ node. tt)))
+
 pub make_only : (side : Side) (now : Time) (header : Header) (kind : Kind) (mode : ℕ)
     (file : List ℕ) (opens : Bool) → OnlyMakes (make side now header kind mode file opens)
 make_only side now header kind mode file opens =
     both_make (Ends (node_named header.node)) _ tt (λ dir.
-    both_make (Grows (Ends (free_name dir file))) _ tt (λ name.
-    both_make (ask_handle (making kind dir name (permissions mode))) _
-    (is_making kind dir name (permissions mode), λ answer. tt) (λ handle.
-    both_make (Ends (number_of handle)) _ tt (λ node. tt))))
+    both_make (ask_shape dir) _ (tt, λ answer. tt) (λ parent.
+    owned_only side now dir (owner_made side dir parent.mode header) kind
+    (mode_in parent.mode kind mode) file opens))

@@ -16,11 +16,11 @@ use Rattle.nv_entry.specs.Tree.{names_of_node, root}
 use Rattle.nv_entry.specs.declared.node.NodeCopy.{NodeCopy}
 use Rattle.nv_effects.specs.Effects.{changed}
 use Rattle.nv_effects.proofs.Effects.{calls_have_effects}
-use Rattle.nv_fuse.specs.declared.header.Header.{Header}
 use Rattle.nv_mount_answers.specs.declared.kept.Time.{Time}
 use Rattle.nv_mount_beside.specs.Names.{hidden}
 use Rattle.nv_mount_beside.specs.Beside.{new_beside, opened}
 use Rattle.nv_mount_beside.specs.declared.beside.Beside.{Beside}
+use Rattle.nv_mount_beside.specs.declared.inherited.Owner.{Owner}
 use Rattle.nv_mounted.specs.Makings.{made_beside, making}
 use Rattle.nv_mounted.specs.Side.{at_node, put_node, touched}
 use Rattle.nv_mounted.specs.declared.side.Side.{Side}
@@ -193,10 +193,10 @@ module _ (old new : Serial) (kind : Kind) (dir : Handle) (name : List ℕ) (mode
 
 module _ (old new : Serial) (side : Side) (was : AreHidden old side) (well_new : IsWell new)
     (kind : Kind) (dir : Handle) (name : List ℕ) (mode : ℕ) (made : Handle)
-    (makes : Makes old new kind dir name mode made) (now : Time) (header : Header)
+    (makes : Makes old new kind dir name mode made) (now : Time) (owner : Owner)
     (opens : Bool) where
   abbrev b : Beside
-  b = made_beside now header opens made
+  b = made_beside now owner opens made
 
   abbrev between : Side
   between = put_node made b side
@@ -207,10 +207,10 @@ module _ (old new : Serial) (side : Side) (was : AreHidden old side) (well_new :
   b_is : (b.generation ≡ made.generation) × (b.nameless ≡ false)
   b_is = go opens where
     go : (t : Bool)
-        → ((if t then opened (new_beside made.generation now header.user header.group) else
-        new_beside made.generation now header.user header.group).generation ≡ made.generation)
-        × ((if t then opened (new_beside made.generation now header.user header.group) else
-        new_beside made.generation now header.user header.group).nameless ≡ false)
+        → ((if t then opened (new_beside made.generation now owner.user owner.group) else
+        new_beside made.generation now owner.user owner.group).generation ≡ made.generation)
+        × ((if t then opened (new_beside made.generation now owner.user owner.group) else
+        new_beside made.generation now owner.user owner.group).nameless ≡ false)
     go true = (refl, refl)
     go false = (refl, refl)
 

@@ -1,6 +1,6 @@
 -- A making that was refused once its node was made: the node has no number, and hidden files stay
 -- hidden.
-use Rattle.std.proofs.Common.{◌≡◌, ◌∙◌, ◌⊎◌, inl, inr, ℕ, Bool, true, false, List, Ok, Err, ap, subst, sym}
+use Rattle.std.proofs.Common.{◌≡◌, ◌∙◌, ◌⊎◌, inl, inr, ℕ, Bool, true, false, List, Ok, Err, ap, refl, subst, sym}
 use Rattle.std.specs.Prelude.{if◌then◌else◌, not}
 use Rattle.nv_base.specs.declared.node.Kind.{Kind}
 use Rattle.nv_base.specs.declared.node.Kind.TheVariants as kinds
@@ -9,15 +9,19 @@ use Rattle.nv_calls.specs.declared.answer.Answer.TheVariants as answers
 use Rattle.nv_fuse.specs.declared.attributes.Attributes.{Attributes}
 use Rattle.nv_fuse.specs.declared.errno.Errno.TheVariants as errno
 use Rattle.nv_fuse.specs.declared.header.Header.{Header}
+use Rattle.nv_mount_answers.specs.Kept.{attributes_of}
+use Rattle.nv_mount_answers.specs.declared.kept.Shape.{Shape}
 use Rattle.nv_mount_answers.specs.declared.kept.Time.{Time}
+use Rattle.nv_mount_beside.specs.Inherited.{mode_in}
 use Rattle.nv_mount_beside.specs.Names.{free_name, node_named, number_of, refused}
 use Rattle.nv_mount_beside.specs.Shown.{entry_of}
 use Rattle.nv_mount_beside.specs.declared.outcome.Outcome.{Outcome}
 use Rattle.nv_mount_beside.specs.declared.outcome.Outcome.TheVariants as outcomes
 use Rattle.nv_mount_beside.specs.declared.refusal.Refusal.{Refusal}
-use Rattle.nv_mounted.specs.Asks.{ask_handle}
+use Rattle.nv_mounted.specs.Asks.{ask_handle, ask_shape}
 use Rattle.nv_mounted.specs.Dialogues.{Dialogue, Ends, Grows, IsHad, ◌>>=◌}
-use Rattle.nv_mounted.specs.Makings.{create, make, makes_file, making, mkdir, mknod, permissions}
+use Rattle.nv_mounted.specs.Makings.{create, empty_shape, made_beside, make, make_owned, makes_file, making, mkdir, mknod, owner_made, permissions}
+use Rattle.nv_mounted.specs.Side.{put_node, touched}
 use Rattle.nv_mounted.specs.Talks.{hidden_if}
 use Rattle.nv_mounted.specs.declared.side.Side.{Side}
 use Rattle.nv_serial.specs.OneCall.{serial_call}
@@ -37,9 +41,9 @@ no_value : {A P : Type 0} {a : A} {why : Refusal} → Err why ≡ Ok a → P
 no_value e = cc
 
 -- a node was made that has no number
-pub record Unnumbered (number : ℕ) (kind : Kind) (mode : ℕ) (file : List ℕ)
-    (old new : Serial) : Type 0
+pub record Unnumbered (number : ℕ) (kind : Kind) (file : List ℕ) (old new : Serial) : Type 0
   where
+    pub mode : ℕ
     pub dir : Handle
     pub dir_is : node_named number ≡ Ok dir
     pub name : List ℕ
@@ -50,12 +54,13 @@ pub record Unnumbered (number : ℕ) (kind : Kind) (mode : ℕ) (file : List ℕ
     pub unnumbered : number_of handle ≡ Err why
 
 -- THE HIDDEN FILES stay so
-pub unnumbered_hidden : (number : ℕ) (kind : Kind) (mode : ℕ) (file : List ℕ) (old new : Serial)
+pub unnumbered_hidden : (number : ℕ) (kind : Kind) (file : List ℕ) (old new : Serial)
     (side : Side) → AreHidden old side → IsWell old → NamesAnother side number
-    → Unnumbered number kind mode file old new → AreHidden new side
-unnumbered_hidden number kind mode file old new side was well another done =
-    making_hidden old new kind done.dir done.name mode done.handle
-    (made_by old new well kind done.dir done.name mode done.handle done.made) side side was well
+    → Unnumbered number kind file old new → AreHidden new side
+unnumbered_hidden number kind file old new side was well another done =
+    making_hidden old new kind done.dir done.name done.mode done.handle
+    (made_by old new well kind done.dir done.name done.mode done.handle done.made) side side was
+    well
     (λ same. another (done.dir_is ∙ ap (λ (h : Handle). Ok h) same))
     (not_reserved done.dir file done.name done.free) (same_flags old side)
     (λ nameless.
@@ -69,12 +74,12 @@ module _ (side : Side) (now : Time) (header : Header) (kind : Kind) (mode : ℕ)
 
   -- what it has done by then
   abbrev Done : Serial → Serial → Type 0
-  Done old new = (new ≡ old) ⊎ Unnumbered header.node kind (permissions mode) file old new
+  Done old new = (new ≡ old) ⊎ Unnumbered header.node kind file old new
 
-  abbrev asks : Handle → List ℕ → Dialogue Handle
-  asks dir name = ask_handle (making kind dir name (permissions mode))
+  module _ {B : Type 0} (old : Serial) (bits : ℕ) (value : Handle → Handle → ℕ → B) where
+    abbrev asks : Handle → List ℕ → Dialogue Handle
+    asks dir name = ask_handle (making kind dir name (permissions bits))
 
-  module _ {B : Type 0} (old : Serial) (value : Handle → Handle → ℕ → B) where
     abbrev ends : Handle → Handle → ℕ → Dialogue B
     ends dir handle node = Ends (Ok (value dir handle node))
 
@@ -83,13 +88,14 @@ module _ (side : Side) (now : Time) (header : Header) (kind : Kind) (mode : ℕ)
 
     numbered : (dir : Handle) (name : List ℕ) (handle : Handle) (between new : Serial)
         (why : Refusal) → node_named header.node ≡ Ok dir → free_name dir file ≡ Ok name
-        → serial_call old 0 (making kind dir name (permissions mode))
+        → serial_call old 0 (making kind dir name (permissions bits))
         ≡ told (answers.Made handle) between
         → GoesOn Calls (ends dir handle) (Ends (number_of handle)) between (Err why) new
         ⊎ Stops Calls (ends dir handle) (Ends (number_of handle)) between (Err why) new
         → Done old new
     numbered dir name handle between new why dir_is free made (inl on) = no_value on.then.0
     numbered dir name handle between new why dir_is free made (inr stop) = inr (record {
+      mode = permissions bits;
       dir = dir;
       dir_is = dir_is;
       name = name;
@@ -110,12 +116,12 @@ module _ (side : Side) (now : Time) (header : Header) (kind : Kind) (mode : ℕ)
           go (inl on) =
               numbered dir name on.value on.between new why dir_is free
               (made_asked old on.between (making kind dir name
-              (permissions mode)) on.value on.first)
+              (permissions bits)) on.value on.first)
               (parts Calls (ends dir on.value) (Ends (number_of on.value)) on.between new (Err why)
               on.then)
           go (inr stop) =
               inl (refused_same (asks dir name) (making_last kind dir name
-              (permissions mode)) old new
+              (permissions bits)) old new
               stop.why stop.first)
 
     abbrev named : Handle → Dialogue B
@@ -143,22 +149,50 @@ module _ (side : Side) (now : Time) (header : Header) (kind : Kind) (mode : ℕ)
           go (inr stop) = inl (reads_same (Grows (Ends (free_name dir file))) tt old new
               (Err stop.why) stop.first)
 
-    all_stops : (new : Serial) (why : Refusal)
-        → IsHad Calls (Ends (node_named header.node) >>= named) old (Err why) new → Done old new
-    all_stops new why had =
-        go (parts Calls named (Ends (node_named header.node)) old new (Err why) had) where
-          go : GoesOn Calls named (Ends (node_named header.node)) old (Err why) new
-              ⊎ Stops Calls named (Ends (node_named header.node)) old (Err why) new → Done old new
-          go (inl on) =
-              named_stops on.value new why (sym on.first.0)
-              (subst (λ (s : Serial). IsHad Calls (named on.value) s
-              (Err why) new) on.first.1 on.then)
-          go (inr stop) = inl stop.first.1
+  -- what it is answered, by its directory's mode
+  abbrev value_in : Handle → ℕ → Handle → Handle → ℕ → Attributes × Side
+  value_in parent_dir parent_mode dir handle node =
+      let owner = owner_made side parent_dir parent_mode header in
+      let beside = made_beside now owner opens handle in (
+        attributes_of node (empty_shape kind (mode_in parent_mode kind mode)) beside.kept,
+        touched now dir (put_node handle beside side),
+      )
+
+  abbrev of_mode : Handle → Shape → Dialogue (Attributes × Side)
+  of_mode dir parent =
+      make_owned side now dir (owner_made side dir parent.mode header) kind
+      (mode_in parent.mode kind mode) file opens
+
+  abbrev in_dir : Handle → Dialogue (Attributes × Side)
+  in_dir dir = ask_shape dir >>= of_mode dir
 
   -- what a making that was refused has done
   pub make_stops : (old new : Serial) (why : Refusal) → IsHad Calls makes old (Err why) new
       → Done old new
-  make_stops old new why had = all_stops old _ new why had
+  make_stops old new why had =
+      at_dir (parts Calls in_dir (Ends (node_named header.node)) old new (Err why) had) where
+        at_parent : (dir : Handle) → node_named header.node ≡ Ok dir
+            → GoesOn Calls (of_mode dir) (ask_shape dir) old (Err why) new
+            ⊎ Stops Calls (of_mode dir) (ask_shape dir) old (Err why) new → Done old new
+        at_parent dir dir_is (inl on) =
+            let same : on.between ≡ old =
+            reads_same (ask_shape dir) (refl, λ answer. tt) old on.between (Ok on.value)
+            on.first in
+            named_stops old (mode_in on.value.mode kind mode) (value_in dir on.value.mode) dir new why
+            dir_is
+            (subst (λ (s : Serial). IsHad Calls (of_mode dir on.value) s (Err why) new) same
+            on.then)
+        at_parent dir dir_is (inr stop) =
+            inl (reads_same (ask_shape dir) (refl, λ answer. tt) old new (Err stop.why) stop.first)
+
+        at_dir : GoesOn Calls in_dir (Ends (node_named header.node)) old (Err why) new
+            ⊎ Stops Calls in_dir (Ends (node_named header.node)) old (Err why) new → Done old new
+        at_dir (inl on) =
+            at_parent on.value (sym on.first.0)
+            (parts Calls (of_mode on.value) (ask_shape on.value) old new (Err why)
+            (subst (λ (s : Serial). IsHad Calls (in_dir on.value) s (Err why) new) on.first.1
+            on.then))
+        at_dir (inr stop) = inl stop.first.1
 
   -- and a request that is answered by it
   answers_stop : (value : Attributes × Side → Outcome × Side) (old new : Serial) (why : Refusal)

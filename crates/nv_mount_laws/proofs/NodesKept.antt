@@ -17,7 +17,7 @@ use Rattle.nv_effects.proofs.Effects.{calls_have_effects}
 use Rattle.nv_effects.proofs.Fair.{answer_fair}
 use Rattle.nv_mount_beside.specs.Beside.{AllBeside, beside_at}
 use Rattle.nv_mount_beside.specs.declared.refusal.Refusal.{Refusal}
-use Rattle.nv_mounted.specs.Dialogues.{Asks, Dialogue, Ends, Grows, IsHad, ◌>>=◌}
+use Rattle.nv_mounted.specs.Dialogues.{Asks, Dialogue, Ends, Grows, GrowsOr, IsHad, ◌>>=◌, undoing}
 use Rattle.nv_mounted.specs.Side.{at_node, with_side}
 use Rattle.nv_mounted.specs.declared.side.Side.{Side}
 use Rattle.nv_serial.specs.OneCall.{serial_call}
@@ -46,6 +46,7 @@ IsAside other = ⊥
 abbrev pub OnlyAside : {A : Type 0} → Dialogue A → Type 0
 OnlyAside (Ends is_told) = Unit {0}
 OnlyAside (Grows rest) = OnlyAside rest
+OnlyAside (GrowsOr refused rest) = OnlyAside refused × OnlyAside rest
 OnlyAside (Asks call rest) = IsAside call × ((answer : Result Answer Fault) → OnlyAside
     (rest answer))
 
@@ -125,6 +126,10 @@ aside_nodes : {A : Type 0} (d : Dialogue A) → OnlyAside d → (old new : Seria
 aside_nodes (Ends is_told) only old new end had = same_nodes old new had.1
 aside_nodes (Grows rest) only old new end (inl had) = same_nodes old new had.1
 aside_nodes (Grows rest) only old new end (inr had) = aside_nodes rest only old new end had
+aside_nodes (GrowsOr refused rest) only old new end (inl had) =
+    aside_nodes refused only.0 old new end had
+aside_nodes (GrowsOr refused rest) only old new end (inr had) =
+    aside_nodes rest only.1 old new end had
 aside_nodes (Asks call rest) only old new end had =
     nodes_twice old had.1 new (called_keeps old had.1 call had.0 only.0 had.2)
     (aside_nodes (rest had.0) (only.1 had.0) had.1 new end had.3)
@@ -136,8 +141,23 @@ unfolding ◌>>=◌
 both_aside (Ends (Ok a)) next first after = after a
 both_aside (Ends (Err why)) next first after = tt
 both_aside (Grows rest) next first after = both_aside rest next first after
+both_aside (GrowsOr refused rest) next first after =
+    (both_aside refused next first.0 after, both_aside rest next first.1 after)
 both_aside (Asks call rest) next first after =
     (first.0, λ answer. both_aside (rest answer) next (first.1 answer) after)
+
+-- where it is refused another one undoes it
+pub undone_aside : {A : Type 0} (undone : Dialogue (Unit {0})) (d : Dialogue A) → OnlyAside undone
+    → OnlyAside d → OnlyAside (undoing undone d)
+unfolding undoing
+undone_aside undone (Ends (Ok a)) back first = tt
+undone_aside undone (Ends (Err why)) back first = both_aside undone _ back (λ done. tt)
+undone_aside undone (Grows rest) back first =
+    (both_aside undone _ back (λ done. tt), undone_aside undone rest back first)
+undone_aside undone (GrowsOr refused rest) back first =
+    (undone_aside undone refused back first.0, undone_aside undone rest back first.1)
+undone_aside undone (Asks call rest) back first =
+    (first.0, λ answer. undone_aside undone (rest answer) back (first.1 answer))
 
 -- ---- beside the world
 
@@ -154,6 +174,7 @@ EndsSo side (Err why) = Unit {0}
 abbrev pub LeavesNodes : {A : Type 0} → Side → Dialogue (A × Side) → Type 0
 LeavesNodes side (Ends is_told) = EndsSo side is_told
 LeavesNodes side (Grows rest) = LeavesNodes side rest
+LeavesNodes side (GrowsOr refused rest) = LeavesNodes side refused × LeavesNodes side rest
 LeavesNodes side (Asks call rest) = (answer : Result Answer Fault) → LeavesNodes side (rest answer)
 
 pub both_leave : {A B : Type 0} (side : Side) (d : Dialogue A) (next : A → Dialogue (B × Side))
@@ -162,6 +183,8 @@ unfolding ◌>>=◌
 both_leave side (Ends (Ok a)) next each = each a
 both_leave side (Ends (Err why)) next each = tt
 both_leave side (Grows rest) next each = both_leave side rest next each
+both_leave side (GrowsOr refused rest) next each =
+    (both_leave side refused next each, both_leave side rest next each)
 both_leave side (Asks call rest) next each = λ answer. both_leave side (rest answer) next each
 
 ends_so : {A : Type 0} (side : Side) (d : Dialogue (A × Side)) → LeavesNodes side d
@@ -172,6 +195,10 @@ ends_so {A} side (Ends is_told) leaves old new end had =
 ends_so {A} side (Grows rest) leaves old new end (inl had) =
     subst (λ (e : Result (A × Side) Refusal). EndsSo side e) (sym had.0) tt
 ends_so side (Grows rest) leaves old new end (inr had) = ends_so side rest leaves old new end had
+ends_so side (GrowsOr refused rest) leaves old new end (inl had) =
+    ends_so side refused leaves.0 old new end had
+ends_so side (GrowsOr refused rest) leaves old new end (inr had) =
+    ends_so side rest leaves.1 old new end had
 ends_so side (Asks call rest) leaves old new end had =
     ends_so side (rest had.0) (leaves had.0) had.1 new end had.3
 

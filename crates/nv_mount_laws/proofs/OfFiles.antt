@@ -4,7 +4,7 @@ use Rattle.nv_core.specs.Worlds.{WorldState}
 use Rattle.nv_files.specs.Stands.{Stands}
 use Rattle.nv_mount_beside.specs.declared.outcome.Outcome.{Outcome}
 use Rattle.nv_mount_beside.specs.declared.refusal.Refusal.{Refusal}
-use Rattle.nv_mounted.specs.Dialogues.{Asks, Dialogue, Ends, Grows, IsHad}
+use Rattle.nv_mounted.specs.Dialogues.{Asks, Dialogue, Ends, Grows, GrowsOr, IsHad}
 use Rattle.nv_mounted.specs.declared.side.Side.{Side}
 use Rattle.nv_mounted.specs.Side.{with_side}
 use Rattle.nv_serial.specs.Serial.{Serial}
@@ -23,6 +23,10 @@ had_plain (Ends is_told) old new end s stands had =
 had_plain (Grows rest) old new end s stands (inl had) =
     (s, inl (had.0, refl), subst (λ (w : WorldState). Stands w s) (sym had.1) stands)
 had_plain (Grows rest) old new end s stands (inr had) =
+    let later = had_plain rest old new end s stands had in (later.0, inr later.1, later.2)
+had_plain (GrowsOr refused rest) old new end s stands (inl had) =
+    let later = had_plain refused old new end s stands had in (later.0, inl later.1, later.2)
+had_plain (GrowsOr refused rest) old new end s stands (inr had) =
     let later = had_plain rest old new end s stands had in (later.0, inr later.1, later.2)
 had_plain (Asks call rest) old new end s stands had =
     let first = had.2 s stands in

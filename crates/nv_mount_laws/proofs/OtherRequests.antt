@@ -1,5 +1,5 @@
 -- An rmdir, an opening and a new mount leave hidden files hidden.
-use Rattle.std.proofs.Common.{◌≡◌, ◌≢◌, ◌∙◌, ◌<◌, ◌⊎◌, inl, inr, ℕ, Bool, true, false, List, Some, Ok, Err, ap, arith, length, refl, subst, sym}
+use Rattle.std.proofs.Common.{◌≡◌, ◌≢◌, ◌∙◌, ◌<◌, ◌⊎◌, inl, inr, ℕ, Bool, true, false, List, None, Some, Ok, Err, ap, arith, length, refl, subst, sym}
 use Rattle.std.specs.Prelude.{if◌then◌else◌, ◌+◌, ◌==◌, ◌&&◌, ◌||◌}
 use Rattle.std.proofs.lemmas.Bool.{eqb-true}
 use Rattle.nv_base.specs.Names.{same_name}
@@ -45,6 +45,9 @@ use Rattle.nv_mount_laws.proofs.Standing.{IsWell}
 
 no_value : {A P : Type 0} {a : A} {why : Refusal} → Err why ≡ Ok a → P
 no_value e = cc
+
+no_some : {A P : Type 0} {a : A} → None ≡ Some a → P
+no_some e = cc
 
 pub checked_is : (name more : List ℕ) → checked_name name ≡ Ok more → name ≡ more
 checked_is name more e = go _ e where
@@ -153,6 +156,20 @@ module _ (old new : Serial) (side : Side) (dir : Handle) (name : List ℕ) (was 
   pub gone_hidden : (new_side : Side) → KeepsFlags old side new_side → AreHidden new new_side
   gone_hidden new_side flags = leaves_hidden old new side new_side dir name to was well left.1
       not_dir not_hidden closed flags
+
+  -- each node that is left was there
+  pub gone_were : (h : Handle) (n : NodeCopy) → copies_now new h ≡ Some n
+      → (m : NodeCopy) × (copies_now old h ≡ Some m)
+  gone_were h n is = go (one_or_other h dir) (one_or_other h to) where
+    go : (h ≡ dir) ⊎ (h ≢ dir) → (h ≡ to) ⊎ (h ≢ to)
+        → (m : NodeCopy) × (copies_now old h ≡ Some m)
+    go (inl same) other =
+        there_by Dir (copies_now old h) (ap (λ (i : Handle). kind_of (copies_now old i)) same
+        ∙ gone_dir)
+    go (inr apart) (inl same) =
+        let none : copies_now new to ≡ None = left.1.gone (λ (e : to ≡ dir). apart (same ∙ e)) in
+        no_some (sym none ∙ ap (copies_now new) (sym same) ∙ is)
+    go (inr apart) (inr other) = (n, sym (left.1.same h apart other) ∙ is)
 
   pub gone_open : (h : Handle) (n : NodeCopy) → copies_now old h ≡ Some n → n.kind ≡ File
       → copies_now new h ≡ Some n

@@ -8,7 +8,7 @@ use Rattle.nv_effects.specs.Suits.{Suits}
 use Rattle.nv_effects.proofs.Effects.{calls_have_effects}
 use Rattle.nv_effects.proofs.Fair.{answer_fair}
 use Rattle.nv_mount_beside.specs.declared.refusal.Refusal.{Refusal}
-use Rattle.nv_mounted.specs.Dialogues.{Asks, Dialogue, Ends, Grows, IsHad, ◌>>=◌}
+use Rattle.nv_mounted.specs.Dialogues.{Asks, Dialogue, Ends, Grows, GrowsOr, IsHad, ◌>>=◌}
 use Rattle.nv_serial.specs.OneCall.{serial_call}
 use Rattle.nv_serial.specs.Serial.{Serial, told}
 use Rattle.nv_mount_laws.specs.Refused.{ChangesNothing}
@@ -54,6 +54,7 @@ reading_same old new c (Err why) reads called = refusal_same old new c why calle
 abbrev pub OnlyReads : {A : Type 0} → Dialogue A → Type 0
 OnlyReads (Ends is_told) = Unit {0}
 OnlyReads (Grows rest) = OnlyReads rest
+OnlyReads (GrowsOr refused rest) = OnlyReads refused × OnlyReads rest
 OnlyReads (Asks call rest) = (only_reads call ≡ true)
     × ((answer : Result Answer Fault) → OnlyReads (rest answer))
 
@@ -67,6 +68,7 @@ Succeeds other = ⊥
 abbrev pub ChangesLast : {A : Type 0} → Dialogue A → Type 0
 ChangesLast (Ends is_told) = Unit {0}
 ChangesLast (Grows rest) = ChangesLast rest
+ChangesLast (GrowsOr refused rest) = ChangesLast refused × ChangesLast rest
 ChangesLast (Asks call rest) =
     ((why : Fault) → ChangesLast (rest (Err why)))
     × ((a : Answer) → Suits call a → only_reads call ≡ true → ChangesLast (rest (Ok a)))
@@ -76,6 +78,10 @@ pub reads_same : {A : Type 0} (d : Dialogue A) → OnlyReads d → ChangesNothin
 reads_same (Ends is_told) reads old new end had = had.1
 reads_same (Grows rest) reads old new end (inl had) = had.1
 reads_same (Grows rest) reads old new end (inr had) = reads_same rest reads old new end had
+reads_same (GrowsOr refused rest) reads old new end (inl had) =
+    reads_same refused reads.0 old new end had
+reads_same (GrowsOr refused rest) reads old new end (inr had) =
+    reads_same rest reads.1 old new end had
 reads_same (Asks call rest) reads old new end had =
     reads_same (rest had.0) (reads.1 had.0) had.1 new end had.3
     ∙ reading_same old had.1 call had.0 reads.0 had.2
@@ -85,6 +91,7 @@ no_refusal : {A : Type 0} (d : Dialogue A) (old new : Serial) (refusal : Refusal
 no_refusal (Ends (Ok a)) old new refusal good had = let e = had.0 in cc
 no_refusal (Ends (Err why)) old new refusal good had = good
 no_refusal (Grows rest) old new refusal good had = good
+no_refusal (GrowsOr refused rest) old new refusal good had = good
 no_refusal (Asks call rest) old new refusal good had = good
 
 -- A DIALOGUE THAT CHANGES THE WORLD BY ITS LAST CALL ALONE has changed nothing where it is refused
@@ -95,6 +102,10 @@ refused_same (Ends is_told) last old new refusal had = had.1
 refused_same (Grows rest) last old new refusal (inl had) = had.1
 refused_same (Grows rest) last old new refusal (inr had) =
     refused_same rest last old new refusal had
+refused_same (GrowsOr refused rest) last old new refusal (inl had) =
+    refused_same refused last.0 old new refusal had
+refused_same (GrowsOr refused rest) last old new refusal (inr had) =
+    refused_same rest last.1 old new refusal had
 refused_same (Asks call rest) last old new refusal (Err why, between, called, had) =
     refused_same (rest (Err why)) (last.0 why) between new refusal had
     ∙ refusal_same old between call why called
@@ -119,6 +130,8 @@ unfolding ◌>>=◌
 both_read (Ends (Ok a)) next first then = then a
 both_read (Ends (Err why)) next first then = tt
 both_read (Grows rest) next first then = both_read rest next first then
+both_read (GrowsOr refused rest) next first then =
+    (both_read refused next first.0 then, both_read rest next first.1 then)
 both_read (Asks call rest) next first then = (
   first.0,
   λ answer. both_read (rest answer) next
@@ -133,6 +146,8 @@ unfolding ◌>>=◌
 reads_first (Ends (Ok a)) next first then = then a
 reads_first (Ends (Err why)) next first then = tt
 reads_first (Grows rest) next first then = reads_first rest next first then
+reads_first (GrowsOr refused rest) next first then =
+    (reads_first refused next first.0 then, reads_first rest next first.1 then)
 reads_first (Asks call rest) next first then = (
   λ why. reads_first (rest (Err why)) next (first.1 (Err why)) then,
   λ a suits reads. reads_first (rest (Ok a)) next (first.1 (Ok a)) then,
@@ -145,6 +160,7 @@ unfolding ◌>>=◌
 succeeds_too (Ends (Ok a)) next first then = then a
 succeeds_too (Ends (Err why)) next first then = absurd first
 succeeds_too (Grows rest) next first then = absurd first
+succeeds_too (GrowsOr refused rest) next first then = absurd first
 succeeds_too (Asks call rest) next first then = absurd first
 
 -- what stands behind the last call has a value
@@ -155,6 +171,8 @@ unfolding ◌>>=◌
 ends_well (Ends (Ok a)) next first then last = last a
 ends_well (Ends (Err why)) next first then last = tt
 ends_well (Grows rest) next first then last = ends_well rest next first then last
+ends_well (GrowsOr refused rest) next first then last =
+    (ends_well refused next first.0 then last, ends_well rest next first.1 then last)
 ends_well (Asks call rest) next first then last = (
   λ why. ends_well (rest (Err why)) next (first.0 why) then last,
   λ a suits reads. ends_well (rest (Ok a)) next (first.1 a suits reads) then last,

@@ -83,20 +83,20 @@ release_last side number =
     chosen (λ d. ChangesLast d) (is_unopened side number) (Ends (Ok (outcomes.Done, side)))
     (release_opened side number) tt (release_opened_last side number)
 
-hide_last : (side : Side) (dir : Handle) (name : List ℕ) (handle : Handle)
-    → ChangesLast (hide side dir name handle)
-hide_last side dir name handle =
+hide_last : (side : Side) (now : Time) (dir : Handle) (name : List ℕ) (handle : Handle)
+    → ChangesLast (hide side now dir name handle)
+hide_last side now dir name handle =
     reads_first (Grows (Ends (hidden_name_for handle))) _ tt (λ new.
     ends_well (ask_done (calls.Rename dir name side.hidden new)) _
     (done_last (calls.Rename dir name side.hidden new))
     (λ done. tt) (λ done. tt))
 
-take_away_last : (side : Side) (dir : Handle) (name : List ℕ) (handle : Handle) (shape : Shape)
-    → ChangesLast (take_away side dir name handle shape)
-take_away_last side dir name handle shape =
-    chosen (λ d. ChangesLast d) (is_open_file side handle shape) (hide side dir name handle)
+take_away_last : (side : Side) (now : Time) (dir : Handle) (name : List ℕ) (handle : Handle) (shape : Shape)
+    → ChangesLast (take_away side now dir name handle shape)
+take_away_last side now dir name handle shape =
+    chosen (λ d. ChangesLast d) (is_open_file side handle shape) (hide side now dir name handle)
     (ask_done (calls.Unlink dir name) >>= λ done. Ends (Ok (tt, side)))
-    (hide_last side dir name handle)
+    (hide_last side now dir name handle)
     (ends_well (ask_done (calls.Unlink dir name)) _ (done_last (calls.Unlink dir name)) (λ done. tt)
     (λ done. tt))
 
@@ -107,7 +107,7 @@ unlink_last side now number file =
     reads_first (Grows (Ends (free_name dir file))) _ tt (λ name.
     reads_first (ask_handle (calls.Lookup dir name)) _ (refl, λ answer. tt) (λ handle.
     reads_first (ask_shape handle) _ (refl, λ answer. tt) (λ shape.
-    ends_well (take_away side dir name handle shape) _ (take_away_last side dir name handle shape)
+    ends_well (take_away side now dir name handle shape) _ (take_away_last side now dir name handle shape)
     (λ gone. tt) (λ gone. tt)))))
 
 rmdir_last : (side : Side) (now : Time) (number : ℕ) (file : List ℕ)

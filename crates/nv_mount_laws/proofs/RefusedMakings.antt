@@ -1,5 +1,5 @@
 -- What a refused making has changed: nothing, or the node that was made has no number.
-use Rattle.std.proofs.Common.{◌≡◌, ◌∙◌, ◌⊎◌, inl, inr, ℕ, Bool, true, false, List, Ok, Err, ap, subst, sym}
+use Rattle.std.proofs.Common.{◌≡◌, ◌∙◌, ◌⊎◌, inl, inr, ℕ, Bool, true, false, List, Ok, Err, ap, refl, subst, sym}
 use Rattle.std.specs.Prelude.{if◌then◌else◌, not}
 use Rattle.nv_base.specs.declared.node.Kind.{Kind}
 use Rattle.nv_base.specs.declared.node.Kind.TheVariants as kinds
@@ -10,11 +10,13 @@ use Rattle.nv_effects.specs.Suits.{IsMade, Suits}
 use Rattle.nv_fuse.specs.declared.errno.Errno.TheVariants as errno
 use Rattle.nv_fuse.specs.declared.header.Header.{Header}
 use Rattle.nv_mount_answers.specs.declared.kept.Time.{Time}
+use Rattle.nv_mount_beside.specs.Inherited.{mode_in}
 use Rattle.nv_mount_beside.specs.Names.{free_name, node_named, number_of, refused}
+use Rattle.nv_mount_beside.specs.declared.inherited.Owner.{Owner}
 use Rattle.nv_mount_beside.specs.declared.refusal.Refusal.{Refusal}
-use Rattle.nv_mounted.specs.Asks.{ask_handle, handle_told}
+use Rattle.nv_mounted.specs.Asks.{ask_handle, ask_shape, handle_told}
 use Rattle.nv_mounted.specs.Dialogues.{Dialogue, Ends, Grows, IsHad, ◌>>=◌}
-use Rattle.nv_mounted.specs.Makings.{create, make, makes_file, making, mkdir, mknod, permissions}
+use Rattle.nv_mounted.specs.Makings.{create, make, make_owned, makes_file, making, mkdir, mknod, owner_made, permissions}
 use Rattle.nv_mounted.specs.declared.side.Side.{Side}
 use Rattle.nv_serial.specs.Serial.{Serial, told}
 use Rattle.nv_mount_laws.specs.Refused.{IsUnnumbered, RefusedChanges}
@@ -79,8 +81,7 @@ before_value {A} {B} Something d value each old new refusal had =
           subst (λ (r : Refusal). (new ≡ old) ⊎ Something old r new) (sym same)
           (each old new stop.why stop.first)
 
-module _ (side : Side) (now : Time) (header : Header) (kind : Kind) (mode : ℕ) (file : List ℕ)
-    (opens : Bool) where
+module _ (side : Side) (now : Time) (kind : Kind) (mode : ℕ) (file : List ℕ) (opens : Bool) where
   -- the call that makes it
   abbrev asks : Handle → List ℕ → Dialogue Handle
   asks dir name = ask_handle (making kind dir name (permissions mode))
@@ -123,11 +124,20 @@ module _ (side : Side) (now : Time) (header : Header) (kind : Kind) (mode : ℕ)
         go (inr stop) = inl (refused_same (asks dir name) (making_last kind dir name (permissions mode))
             old new stop.why stop.first)
 
-  pub make_refused : Changes (make side now header kind mode file opens) IsUnnumbered
-  make_refused =
-      behind_reads IsUnnumbered (Ends (node_named header.node)) _ tt (λ dir.
+  owned_refused : (dir : Handle) (owner : Owner)
+      → Changes (make_owned side now dir owner kind mode file opens) IsUnnumbered
+  owned_refused dir owner =
       behind_reads IsUnnumbered (Grows (Ends (free_name dir file))) _ tt
-      (λ name. unnumbered dir name _))
+      (λ name. unnumbered dir name _)
+
+pub make_refused : (side : Side) (now : Time) (header : Header) (kind : Kind) (mode : ℕ)
+    (file : List ℕ) (opens : Bool)
+    → Changes (make side now header kind mode file opens) IsUnnumbered
+make_refused side now header kind mode file opens =
+    behind_reads IsUnnumbered (Ends (node_named header.node)) _ tt (λ dir.
+    behind_reads IsUnnumbered (ask_shape dir) _ (refl, λ answer. tt) (λ parent.
+    owned_refused side now kind (mode_in parent.mode kind mode) file opens dir
+    (owner_made side dir parent.mode header)))
 
 pub refused_changes : {A : Type 0} (Something : Serial → Refusal → Serial → Type 0)
     (talk : Dialogue (A × Side)) (side : Side)

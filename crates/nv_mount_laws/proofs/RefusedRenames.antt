@@ -54,16 +54,15 @@ ask_there side to new moved kind flags = ask (calls.Lookup to new) there_told >>
 abbrev pub crosses : Handle → Handle → Kind → Bool
 crosses from to kind = is_directory kind && not (same_handle from to)
 
-pub asks_way : (side : Side) (from : Handle) (old : List ℕ) (to : Handle) (new : List ℕ) (flags : ℕ)
-    → OnlyReads (ask_way side from old to new flags)
-asks_way side from old to new flags =
-    both_read (ask_handle (calls.Lookup from old)) _ (refl, λ answer. tt) (λ moved.
+pub asks_way : (side : Side) (moved from to : Handle) (new : List ℕ) (flags : ℕ)
+    → OnlyReads (ask_way side moved from to new flags)
+asks_way side moved from to new flags =
     both_read (ask_shape moved) _ (refl, λ answer. tt) (λ shape.
     chosen (λ d. OnlyReads d) (crosses from to shape.kind) (Ends (refused errno.CrossDevice))
     (ask_there side to new moved shape.kind flags) tt
     (both_read (ask (calls.Lookup to new) there_told)
     (λ there. way_past side moved shape.kind flags there) (refl, λ answer. tt)
-    (λ there. way_reads side moved shape.kind flags there))))
+    (λ there. way_reads side moved shape.kind flags there)))
 
 no_refusal : {A P : Type 0} {a : A} {why : Refusal} → Ok a ≡ Err why → P
 no_refusal e = cc
@@ -124,17 +123,15 @@ past_open side moved kind flags (Some there) open_one s t had = first (flags == 
   first false h = second (same_handle there moved) h
 
 -- AN OPEN FILE IN THE WAY is what the new name leads to
-way_open : (side : Side) (from : Handle) (old : List ℕ) (to : Handle) (new : List ℕ) (flags : ℕ)
+way_open : (side : Side) (moved from to : Handle) (new : List ℕ) (flags : ℕ)
     (open_one : Handle) (s t : Serial)
-    → IsHad Calls (ask_way side from old to new flags) s (Ok (ways.Open open_one)) t
+    → IsHad Calls (ask_way side moved from to new flags) s (Ok (ways.Open open_one)) t
     → lookup (copies_now s) to new ≡ Some open_one
-way_open side from old to new flags open_one s t had =
-    let a = went_on Calls _ (ask_handle (calls.Lookup from old)) s t (ways.Open open_one) had in
-    let found = looked_up s a.between from old a.value a.first in
-    let b = went_on Calls _ (ask_shape a.value) a.between t (ways.Open open_one) a.then in
-    let shaped = shape_asked a.between b.between a.value b.value b.first in
-    subst (λ (u : Serial). lookup (copies_now u) to new ≡ Some open_one) (shaped.1 ∙ found.1)
-    (go b.between a.value b.value.kind (crosses from to b.value.kind) b.then) where
+way_open side moved from to new flags open_one s t had =
+    let b = went_on Calls _ (ask_shape moved) s t (ways.Open open_one) had in
+    let shaped = shape_asked s b.between moved b.value b.first in
+    subst (λ (u : Serial). lookup (copies_now u) to new ≡ Some open_one) shaped.1
+    (go b.between b.value.kind (crosses from to b.value.kind) b.then) where
       told_there : (u : Serial) (found : Option Handle) (v : Serial) → found ≡ Some open_one
           → IsHad Calls (ask (calls.Lookup to new) there_told) u (Ok found) v
           → lookup (copies_now u) to new ≡ Some open_one
@@ -146,12 +143,12 @@ way_open side from old to new flags open_one s t had =
           in
           (lookup_found u between 0 to new open_one there.answered).0
 
-      go : (u : Serial) (moved : Handle) (kind : Kind) (b : Bool)
+      go : (u : Serial) (kind : Kind) (b : Bool)
           → IsHad Calls (if b then Ends (refused errno.CrossDevice) else ask_there side to new moved
           kind flags) u (Ok (ways.Open open_one)) t
           → lookup (copies_now u) to new ≡ Some open_one
-      go u moved kind true h = no_refusal h.0
-      go u moved kind false h =
+      go u kind true h = no_refusal h.0
+      go u kind false h =
           let c = went_on Calls (λ there. way_past side moved kind flags there)
           (ask (calls.Lookup to new) there_told) u t (ways.Open open_one) h in
           told_there u c.value c.between (past_open side moved kind flags c.value open_one c.between
@@ -202,8 +199,8 @@ pub record WentAndCame (old : Serial) (away back : Call) (new : Serial) : Type 0
   pub went : Answered old away between
   pub came : Answered between back new
 
-module _ (side : Side) (from : Handle) (old : List ℕ) (to : Handle) (new : List ℕ) (there : Handle)
-    (hidden : List ℕ) where
+module _ (side : Side) (now : Time) (moved from : Handle) (old : List ℕ) (to : Handle)
+    (new : List ℕ) (there : Handle) (hidden : List ℕ) where
   abbrev away : Call
   away = calls.Rename to new side.hidden hidden
 
@@ -214,13 +211,13 @@ module _ (side : Side) (from : Handle) (old : List ℕ) (to : Handle) (new : Lis
   back = calls.Rename side.hidden hidden to new
 
   abbrev pub moves : Dialogue (Outcome × Side)
-  moves = ask_done away >>= λ gone. Asks over (moved_or_back side there back)
+  moves = ask_done away >>= λ gone. Asks over (moved_or_back side now moved there back)
 
   no_value : {P : Type 0} {value : Outcome × Side} {why : Refusal} → Err why ≡ Ok value → P
   no_value e = cc
 
   came_back : (between new_world : Serial) (why : Fault) (refusal : Refusal)
-      → IsHad Calls (taken_back side there back why) between (Err refusal) new_world
+      → IsHad Calls (taken_back side now there back why) between (Err refusal) new_world
       → Answered between back new_world
   came_back between new_world why refusal (Ok a, after, called, (is, same)) = record {
     answer = a;
@@ -230,7 +227,7 @@ module _ (side : Side) (from : Handle) (old : List ℕ) (to : Handle) (new : Lis
   came_back between new_world why refusal (Err other, after, called, (is, same)) = no_value is
 
   moved_back : (between new_world : Serial) (refusal : Refusal)
-      → IsHad Calls (Asks over (moved_or_back side there back)) between (Err refusal) new_world
+      → IsHad Calls (Asks over (moved_or_back side now moved there back)) between (Err refusal) new_world
       → Answered between back new_world
   moved_back between new_world refusal (Ok a, after, called, (is, same)) = no_value is
   moved_back between new_world refusal (Err why, after, called, rest) =
@@ -241,11 +238,11 @@ module _ (side : Side) (from : Handle) (old : List ℕ) (to : Handle) (new : Lis
       → IsHad Calls moves old_world (Err refusal) new_world
       → (new_world ≡ old_world) ⊎ WentAndCame old_world away back new_world
   went_by old_world new_world refusal had =
-      go (parts Calls (λ gone. Asks over (moved_or_back side there back)) (ask_done away) old_world
+      go (parts Calls (λ gone. Asks over (moved_or_back side now moved there back)) (ask_done away) old_world
       new_world (Err refusal) had) where
-        go : GoesOn Calls (λ gone. Asks over (moved_or_back side there back)) (ask_done away)
+        go : GoesOn Calls (λ gone. Asks over (moved_or_back side now moved there back)) (ask_done away)
             old_world (Err refusal) new_world
-            ⊎ Stops Calls (λ gone. Asks over (moved_or_back side there back)) (ask_done away)
+            ⊎ Stops Calls (λ gone. Asks over (moved_or_back side now moved there back)) (ask_done away)
             old_world (Err refusal) new_world
             → (new_world ≡ old_world) ⊎ WentAndCame old_world away back new_world
         go (inl on) = inr (record {
@@ -276,13 +273,13 @@ Raw side old refusal new = HasLostDirectory old new ⊎ CameBack side old new
 abbrev pub hides_there : Handle → Dialogue (List ℕ)
 hides_there there = Grows (Ends (hidden_name_for there))
 
-pub over_open : (side : Side) (from : Handle) (old : List ℕ) (to : Handle) (new : List ℕ)
-    (there : Handle) (s t : Serial) (refusal : Refusal)
+pub over_open : (side : Side) (now : Time) (moved from : Handle) (old : List ℕ) (to : Handle)
+    (new : List ℕ) (there : Handle) (s t : Serial) (refusal : Refusal)
     → lookup (copies_now s) to new ≡ Some there
-    → IsHad Calls (move_over_open side from old to new there) s (Err refusal) t
+    → IsHad Calls (move_over_open side now moved from old to new there) s (Err refusal) t
     → (t ≡ s) ⊎ CameBack side s t
-over_open side from old to new there s t refusal bound had =
-    go (parts Calls (moves side from old to new there) (hides_there there) s t (Err refusal) had)
+over_open side now moved from old to new there s t refusal bound had =
+    go (parts Calls (moves side now moved from old to new there) (hides_there there) s t (Err refusal) had)
   where
     trip : (hidden : List ℕ) → hidden_name_for there ≡ Ok hidden
         → (t ≡ s) ⊎ WentAndCame s (calls.Rename to new side.hidden hidden)
@@ -300,68 +297,68 @@ over_open side from old to new there s t refusal bound had =
           trip = came;
         })
 
-    go : GoesOn Calls (moves side from old to new there) (hides_there there) s (Err refusal) t
-        ⊎ Stops Calls (moves side from old to new there) (hides_there there) s (Err refusal) t
+    go : GoesOn Calls (moves side now moved from old to new there) (hides_there there) s (Err refusal) t
+        ⊎ Stops Calls (moves side now moved from old to new there) (hides_there there) s (Err refusal) t
         → (t ≡ s) ⊎ CameBack side s t
     go (inl on) =
         let so = grown (hidden_name_for there) s on.between on.value on.first in
         trip on.value so.0
-        (went_by side from old to new there on.value s t refusal
-        (subst (λ (u : Serial). IsHad Calls (moves side from old to new there on.value) u
+        (went_by side now moved from old to new there on.value s t refusal
+        (subst (λ (u : Serial). IsHad Calls (moves side now moved from old to new there on.value) u
         (Err refusal) t) so.1 on.then))
     go (inr stop) = inl (reads_same (hides_there there) tt s t (Err stop.why) stop.first)
 
-moved_refused : (side : Side) (now : Time) (from : Handle) (old : List ℕ) (to : Handle)
+moved_refused : (side : Side) (now : Time) (moved from : Handle) (old : List ℕ) (to : Handle)
     (new : List ℕ) (way : Way) (s t : Serial) (refusal : Refusal)
     → ((there : Handle) → way ≡ ways.Open there → lookup (copies_now s) to new ≡ Some there)
-    → IsHad Calls (moved_by side now from old to new way) s (Err refusal) t → (t ≡ s)
+    → IsHad Calls (moved_by side now moved from old to new way) s (Err refusal) t → (t ≡ s)
     ⊎ Raw side s refusal t
-moved_refused side now from old to new ways.Same s t refusal open_there had = no_refusal (sym had.0)
-moved_refused side now from old to new ways.Free s t refusal open_there had =
+moved_refused side now moved from old to new ways.Same s t refusal open_there had = no_refusal (sym had.0)
+moved_refused side now moved from old to new ways.Free s t refusal open_there had =
     before_value (Raw side) (move_name from old to new) _
     (λ u v why h. inl (refused_same (move_name from old to new)
     (done_last (calls.Rename from old to new)) u v why h)) s t refusal had
-moved_refused side now from old to new ways.Directory s t refusal open_there had =
+moved_refused side now moved from old to new ways.Directory s t refusal open_there had =
     before_value (Raw side) (move_over_directory from old to new) _
     (lost (Raw side) (λ u v why gone. inl gone) from old to new) s t refusal had
-moved_refused side now from old to new (ways.Open there) s t refusal open_there had =
-    go (parts Calls touches (move_over_open side from old to new there) s t (Err refusal) had) where
+moved_refused side now moved from old to new (ways.Open there) s t refusal open_there had =
+    go (parts Calls touches (move_over_open side now moved from old to new there) s t (Err refusal) had) where
       touches : Outcome × Side → Dialogue (Outcome × Side)
-      touches moved = Ends (Ok (moved.0, both_touched now from to moved.1))
+      touches done = Ends (Ok (done.0, both_touched now from to done.1))
 
-      go : GoesOn Calls touches (move_over_open side from old to new there) s (Err refusal) t
-          ⊎ Stops Calls touches (move_over_open side from old to new there) s (Err refusal) t
+      go : GoesOn Calls touches (move_over_open side now moved from old to new there) s (Err refusal) t
+          ⊎ Stops Calls touches (move_over_open side now moved from old to new there) s (Err refusal) t
           → (t ≡ s) ⊎ Raw side s refusal t
       go (inl on) = no_refusal (sym on.then.0)
-      go (inr stop) = back (over_open side from old to new there s t stop.why
+      go (inr stop) = back (over_open side now moved from old to new there s t stop.why
           (open_there there refl) stop.first) where
             back : (t ≡ s) ⊎ CameBack side s t → (t ≡ s) ⊎ Raw side s refusal t
             back (inl same) = inl same
             back (inr came) = inr (inr came)
 
 module _ (side : Side) (now : Time) (flags : ℕ) where
-  way_refused : (from : Handle) (old : List ℕ) (to : Handle) (new : List ℕ)
-      → Changes (ask_way side from old to new flags >>= moved_by side now from old to new)
+  way_refused : (moved from : Handle) (old : List ℕ) (to : Handle) (new : List ℕ)
+      → Changes (ask_way side moved from to new flags >>= moved_by side now moved from old to new)
       (Raw side)
-  way_refused from old to new s t refusal had =
-      go (parts Calls (moved_by side now from old to new) (ask_way side from old to new flags) s t
+  way_refused moved from old to new s t refusal had =
+      go (parts Calls (moved_by side now moved from old to new) (ask_way side moved from to new flags) s t
       (Err refusal) had) where
-        go : GoesOn Calls (moved_by side now from old to new) (ask_way side from old to new flags) s
+        go : GoesOn Calls (moved_by side now moved from old to new) (ask_way side moved from to new flags) s
             (Err refusal) t
-            ⊎ Stops Calls (moved_by side now from old to new) (ask_way side from old to new flags) s
+            ⊎ Stops Calls (moved_by side now moved from old to new) (ask_way side moved from to new flags) s
             (Err refusal) t
             → (t ≡ s) ⊎ Raw side s refusal t
         go (inl on) =
-            let same : on.between ≡ s = reads_same (ask_way side from old to new flags)
-            (asks_way side from old to new flags) s on.between (Ok on.value) on.first in
-            moved_refused side now from old to new on.value s t refusal
-            (λ there is. way_open side from old to new flags there s on.between
-            (subst (λ (w : Way). IsHad Calls (ask_way side from old to new flags) s (Ok w)
+            let same : on.between ≡ s = reads_same (ask_way side moved from to new flags)
+            (asks_way side moved from to new flags) s on.between (Ok on.value) on.first in
+            moved_refused side now moved from old to new on.value s t refusal
+            (λ there is. way_open side moved from to new flags there s on.between
+            (subst (λ (w : Way). IsHad Calls (ask_way side moved from to new flags) s (Ok w)
             on.between) is on.first))
-            (subst (λ (u : Serial). IsHad Calls (moved_by side now from old to new on.value) u
+            (subst (λ (u : Serial). IsHad Calls (moved_by side now moved from old to new on.value) u
             (Err refusal) t) same on.then)
-        go (inr stop) = inl (reads_same (ask_way side from old to new flags)
-            (asks_way side from old to new flags) s t (Err stop.why) stop.first)
+        go (inr stop) = inl (reads_same (ask_way side moved from to new flags)
+            (asks_way side moved from to new flags) s t (Err stop.why) stop.first)
 
   pub rename_raw : (from : ℕ) (old : List ℕ) (to : ℕ) (new : List ℕ)
       → Changes (rename side now from old to new flags) (Raw side)
@@ -372,4 +369,5 @@ module _ (side : Side) (now : Time) (flags : ℕ) where
       (λ s t refusal had. inl had.1)
       (behind_reads (Raw side) (Grows (Ends (free_name source old))) _ tt (λ old_name.
       behind_reads (Raw side) (Grows (Ends (free_name target new))) _ tt (λ new_name.
-      way_refused source old_name target new_name)))))
+      behind_reads (Raw side) (ask_handle (calls.Lookup source old_name)) _ (refl, λ answer. tt)
+      (λ moved. way_refused moved source old_name target new_name))))))

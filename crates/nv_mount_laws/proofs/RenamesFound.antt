@@ -11,11 +11,12 @@ use Rattle.nv_calls.specs.Plain.{same_handle}
 use Rattle.nv_calls.specs.Refusals.{kind_of, lookup}
 use Rattle.nv_calls.specs.declared.answer.Answer.TheVariants as answers
 use Rattle.nv_calls.specs.declared.call.Call.TheVariants as calls
+use Rattle.nv_entry.specs.declared.node.NodeCopy.{NodeCopy}
 use Rattle.nv_fuse.specs.declared.errno.Errno.TheVariants as errno
 use Rattle.nv_effects.proofs.Visits.{lookup_found, lookup_missing}
 use Rattle.nv_mount_beside.specs.Names.{refused}
 use Rattle.nv_mount_beside.specs.declared.refusal.Refusal.{Refusal}
-use Rattle.nv_mounted.specs.Asks.{ask, ask_handle, ask_shape}
+use Rattle.nv_mounted.specs.Asks.{ask, ask_shape}
 use Rattle.nv_mounted.specs.Dialogues.{Ends, IsHad, ◌>>=◌}
 use Rattle.nv_mounted.specs.Renames.{ask_way, there_told, way_over, way_past}
 use Rattle.nv_mounted.specs.Side.{at_node}
@@ -25,8 +26,9 @@ use Rattle.nv_mounted.specs.declared.side.Side.{Side}
 use Rattle.nv_serial.specs.OneCall.{serial_call}
 use Rattle.nv_serial.specs.Serial.{Serial, copies_now, refused as refusing}
 use Rattle.nv_mount_laws.specs.World.{Calls}
-use Rattle.nv_mount_laws.proofs.Asked.{looked_up, shape_asked}
+use Rattle.nv_mount_laws.proofs.Asked.{shape_asked}
 use Rattle.nv_mount_laws.proofs.Dialogues.{went_on}
+use Rattle.nv_mount_laws.proofs.HiddenKept.{there_by}
 use Rattle.nv_mount_laws.proofs.Released.{no_open}
 use Rattle.nv_mount_laws.proofs.RefusedRenames.{ask_there, crosses, past_same, way_if}
 
@@ -48,13 +50,6 @@ IsWay s side to new ways.Free =
     (there : Handle) → lookup (copies_now s) to new ≡ Some there → IsClosedFile s side there
 IsWay s side to new (ways.Open there) = IsOpenThere s side to new there
 IsWay s side to new other = Unit {0}
-
--- what a rename found
-pub record Finds (s : Serial) (side : Side) (from : Handle) (old : List ℕ) (to : Handle)
-    (new : List ℕ) (way : Way) : Type 0 where
-  pub moved : Handle
-  pub bound : lookup (copies_now s) from old ≡ Some moved
-  pub in_way : IsWay s side to new way
 
 no_refusal : {A P : Type 0} {a : A} {why : Refusal} → Ok a ≡ Err why → P
 no_refusal e = cc
@@ -148,29 +143,32 @@ module _ (side : Side) (to : Handle) (new : List ℕ) where
     first false h = second (same_handle there moved) h
 
   -- WHAT IS IN THE WAY of a rename
-  pub way_found : (s t : Serial) (from : Handle) (old : List ℕ) (flags : ℕ) (way : Way)
-      → IsHad Calls (ask_way side from old to new flags) s (Ok way) t
-      → Finds s side from old to new way
-  way_found s t from old flags way had =
-      let a = went_on Calls _ (ask_handle (calls.Lookup from old)) s t way had in
-      let found = looked_up s a.between from old a.value a.first in
-      let b = went_on Calls _ (ask_shape a.value) a.between t way a.then in
-      let shaped = shape_asked a.between b.between a.value b.value b.first in
-      record {
-        moved = a.value;
-        bound = found.0;
-        in_way = subst (λ (u : Serial). IsWay u side to new way) (shaped.1 ∙ found.1)
-            (go b.between a.value b.value.kind (crosses from to b.value.kind) b.then);
-      } where
-        go : (u : Serial) (moved : Handle) (kind : Kind) (b : Bool)
+  pub way_found : (s t : Serial) (moved from : Handle) (flags : ℕ) (way : Way)
+      → IsHad Calls (ask_way side moved from to new flags) s (Ok way) t
+      → IsWay s side to new way
+  way_found s t moved from flags way had =
+      let b = went_on Calls _ (ask_shape moved) s t way had in
+      let shaped = shape_asked s b.between moved b.value b.first in
+      subst (λ (u : Serial). IsWay u side to new way) shaped.1
+      (go b.between b.value.kind (crosses from to b.value.kind) b.then) where
+        go : (u : Serial) (kind : Kind) (b : Bool)
             → IsHad Calls (if b then Ends (refused errno.CrossDevice) else ask_there side to new
             moved kind flags) u (Ok way) t
             → IsWay u side to new way
-        go u moved kind true h = no_refusal h.0
-        go u moved kind false h =
+        go u kind true h = no_refusal h.0
+        go u kind false h =
             let c = went_on Calls (λ there. way_past side moved kind flags there)
             (ask (calls.Lookup to new) there_told) u t way h in
             let told_so = told_there u c.between to new c.value c.first in
             past u t moved kind flags c.value way told_so.0
             (subst (λ (v : Serial). IsHad Calls (way_past side moved kind flags c.value) v (Ok way)
             t) told_so.1 c.then)
+
+  -- what moves is there
+  pub moved_there : (s t : Serial) (moved from : Handle) (flags : ℕ) (way : Way)
+      → IsHad Calls (ask_way side moved from to new flags) s (Ok way) t
+      → (n : NodeCopy) × (copies_now s moved ≡ Some n)
+  moved_there s t moved from flags way had =
+      let b = went_on Calls _ (ask_shape moved) s t way had in
+      there_by b.value.kind (copies_now s moved)
+      (shape_asked s b.between moved b.value b.first).0

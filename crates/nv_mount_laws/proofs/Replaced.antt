@@ -11,6 +11,7 @@ use Rattle.nv_entry.specs.Index.{with_last, without}
 use Rattle.nv_entry.specs.declared.node.NodeCopy.{NodeCopy}
 use Rattle.nv_effects.specs.Effects.{changed}
 use Rattle.nv_effects.proofs.Effects.{calls_have_effects}
+use Rattle.nv_mount_answers.specs.declared.kept.Time.{Time}
 use Rattle.nv_mount_beside.specs.declared.outcome.Outcome.{Outcome}
 use Rattle.nv_mount_beside.specs.declared.refusal.Refusal.{Refusal}
 use Rattle.nv_mounted.specs.Asks.{ask_done}
@@ -87,14 +88,14 @@ renamed_stays old new from name to more h node answered is kind free =
     (found (copies_now old) from name) (found (copies_now old) to more) none
     ∙ is
 
-module _ (side : Side) (from : Handle) (old : List ℕ) (to : Handle) (new : List ℕ) (there : Handle)
-    (node : NodeCopy) where
+module _ (side : Side) (now : Time) (moved from : Handle) (old : List ℕ) (to : Handle)
+    (new : List ℕ) (there : Handle) (node : NodeCopy) where
   -- after the first move, whichever way it goes on
   over_stays : (hidden : List ℕ) (between t : Serial) (end : Result (Outcome × Side) Refusal)
       → copies_now between there ≡ Some node → node.kind ≡ File → lookup (copies_now between) to new
       ≡ None
       → IsHad Calls (Asks (calls.Rename from old to new)
-      (moved_or_back side there (calls.Rename side.hidden hidden to new))) between end t
+      (moved_or_back side now moved there (calls.Rename side.hidden hidden to new))) between end t
       → copies_now t there ≡ Some node
   over_stays hidden between t end is kind free (Ok a, after, called, (told_so, same)) =
       ap (λ (s : Serial). copies_now s there) same
@@ -117,15 +118,15 @@ module _ (side : Side) (from : Handle) (old : List ℕ) (to : Handle) (new : Lis
       → to ≢ side.hidden
       → lookup (copies_now s) to new ≡ Some there → copies_now s there ≡ Some node → node.kind
       ≡ File
-      → IsHad Calls (move_over_open side from old to new there) s (Ok end) t → copies_now t there
+      → IsHad Calls (move_over_open side now moved from old to new there) s (Ok end) t → copies_now t there
       ≡ Some node
   replaced_stays s t end stands was differ bound is kind had =
       let well = stands_well s stands in
-      let a = went_on Calls (moves side from old to new there) (hides_there there) s t end had in
+      let a = went_on Calls (moves side now moved from old to new there) (hides_there there) s t end had in
       let hidden = a.value in
       let so = grown (hidden_name_for there) s a.between hidden a.first in
       let b = went_on Calls (λ gone. Asks (calls.Rename from old to new)
-      (moved_or_back side there (calls.Rename side.hidden hidden to new)))
+      (moved_or_back side now moved there (calls.Rename side.hidden hidden to new)))
       (ask_done (calls.Rename to new side.hidden hidden)) a.between t end a.then in
       let away : Answered s (calls.Rename to new side.hidden hidden) b.between =
       subst (λ (u : Serial). Answered u (calls.Rename to new side.hidden hidden) b.between) so.1
@@ -150,10 +151,10 @@ module _ (side : Side) (from : Handle) (old : List ℕ) (to : Handle) (new : Lis
       over_stays hidden b.between t (Ok end) still kind
       (left_free (copies_now s) (copies_now b.between) to new went.from_is went.left) b.then
 
-pub replaced_leaves : (side : Side) (from : Handle) (old : List ℕ) (to : Handle) (new : List ℕ)
-    (there : Handle)
-    → LeavesReplaced (move_over_open side from old to new there) side to new there
-replaced_leaves side from old to new there s t node end stands was differ bound is kind had =
-    stays s t there node (stands_after (move_over_open side from old to new there) s t (Ok end)
+pub replaced_leaves : (side : Side) (now : Time) (moved from : Handle) (old : List ℕ) (to : Handle)
+    (new : List ℕ) (there : Handle)
+    → LeavesReplaced (move_over_open side now moved from old to new there) side to new there
+replaced_leaves side now moved from old to new there s t node end stands was differ bound is kind had =
+    stays s t there node (stands_after (move_over_open side now moved from old to new there) s t (Ok end)
     stands had) is kind
-    (replaced_stays side from old to new there node s t end stands was differ bound is kind had)
+    (replaced_stays side now moved from old to new there node s t end stands was differ bound is kind had)

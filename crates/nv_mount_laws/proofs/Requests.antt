@@ -13,16 +13,16 @@ use Rattle.nv_mount_beside.specs.Names.{node_named, refused}
 use Rattle.nv_mount_beside.specs.declared.outcome.Outcome.{Outcome}
 use Rattle.nv_mount_beside.specs.declared.outcome.Outcome.TheVariants as outcomes
 use Rattle.nv_mount_beside.specs.declared.refusal.Refusal.{Refusal}
-use Rattle.nv_mounted.specs.Answers.{Answering, AtOnce, ByAnswer, ByChange, ByRoom, IsAnsweredBy, answer_in_snapshot, answer_of, answering, end_of, hidden_in, if_snapshots, leads_to_snapshot, names_hidden, reaches_hidden}
+use Rattle.nv_mounted.specs.Answers.{Answering, AtOnce, ByAnswer, ByChange, ByRoom, IsAnsweredBy, answer_in_snapshot, answer_of, answering, end_of, hidden_in, if_snapshots, leads_to_snapshot, names_hidden, nothing, reaches_hidden, read_only}
 use Rattle.nv_mounted.specs.Contents.{fallocate, read_bytes, write_bytes}
 use Rattle.nv_mounted.specs.Dialogues.{Dialogue, Ends, Grows}
 use Rattle.nv_mounted.specs.Entries.{is_hidden, is_snapshots, lookup}
-use Rattle.nv_mounted.specs.Listings.{close_directory, open_directory, read_directory}
+use Rattle.nv_mounted.specs.Listings.{close_directory, open_directory, open_one, read_directory}
 use Rattle.nv_mounted.specs.Makings.{create, mkdir, mknod}
 use Rattle.nv_mounted.specs.Renames.{rename}
 use Rattle.nv_mounted.specs.Sets.{set_attributes}
 use Rattle.nv_mounted.specs.Side.{at_node, with_side}
-use Rattle.nv_mounted.specs.Snapshots.{drop_snapshot, is_of_snapshots, make_snapshot, snapshot_read, snapshot_read_directory, snapshots_attributes, snapshots_node}
+use Rattle.nv_mounted.specs.Snapshots.{drop_snapshot, is_of_snapshots, make_snapshot, read_snapshots, snapshot_open, snapshot_read, snapshot_read_directory, snapshots_attributes, snapshots_node}
 use Rattle.nv_mounted.specs.Talks.{get_attributes, lookup_name, open_node, release_file, rmdir, unlink}
 use Rattle.nv_mounted.specs.declared.side.Side.{Side}
 use Rattle.nv_mounted.specs.declared.world.Room.{Room}
@@ -31,7 +31,7 @@ use Rattle.nv_mount_laws.specs.Hidden.{AreHidden, KeepsHidden, NamesAnother}
 use Rattle.nv_mount_laws.specs.Open.{IsOpenFile, LeavesOpenFiles, LeavesOtherFiles, Stays}
 use Rattle.nv_mount_laws.specs.Requests.{ChangesAnother, HasAnyRoom, RequestsKeepHidden, RequestsLeaveOpenFiles}
 use Rattle.nv_mount_laws.specs.World.{CanStand, Calls}
-use Rattle.nv_mount_laws.proofs.AsideRequests.{directories_close, directories_open, directories_read, snapshots_drop, snapshots_make}
+use Rattle.nv_mount_laws.proofs.AsideRequests.{directories_close, directories_open, directories_read, snapshots_drop, snapshots_make, snapshots_open, snapshots_read}
 use Rattle.nv_mount_laws.proofs.BytesKept.{fallocates_keep, fallocates_leave, writes_keep, writes_leave}
 use Rattle.nv_mount_laws.proofs.HiddenKept.{flags_hidden, hidden_flags}
 use Rattle.nv_mount_laws.proofs.Makings.{creates_keep, creates_leave, mkdirs_keep, mkdirs_leave, mknods_keep, mknods_leave}
@@ -226,23 +226,35 @@ module _ (HasRoom : Serial → Room → Type 0) (old : Serial) (side : Side) (no
   -- ---- a node of a snapshot
 
   if_of_snapshots : {Only : Handle → Type 0} (number : ℕ) (talk : Dialogue (Outcome × Side))
-      → IsAsideRequest talk side → Keeps Only (if_snapshots number talk)
-  if_of_snapshots {Only} number talk aside = go (number == snapshots_node) where
-    go : (b : Bool) → Keeps Only (if b then ByChange talk else AtOnce (refused errno.ReadOnly))
+      (below : Answering)
+      → IsAsideRequest talk side → Keeps Only below → Keeps Only (if_snapshots number talk below)
+  if_of_snapshots {Only} number talk below aside other = go (number == snapshots_node) where
+    go : (b : Bool) → Keeps Only (if b then ByChange talk else below)
     go true = by_aside talk aside
-    go false = at_once (refused errno.ReadOnly)
+    go false = other
 
   of_snapshot : {Only : Handle → Type 0} (number : ℕ) (operation : Operation)
       → Keeps Only (answer_in_snapshot side number operation)
   of_snapshot number operations.Statfs = by_room
   of_snapshot number (operations.Mkdir mode umask name) =
-      if_of_snapshots number (make_snapshot side name.now) (snapshots_make side name.now)
+      if_of_snapshots number (make_snapshot side name.now) read_only
+      (snapshots_make side name.now) (at_once (refused errno.ReadOnly))
   of_snapshot number (operations.Rmdir name) =
-      if_of_snapshots number (drop_snapshot side name.now) (snapshots_drop side name.now)
+      if_of_snapshots number (drop_snapshot side name.now) read_only
+      (snapshots_drop side name.now) (at_once (refused errno.ReadOnly))
   of_snapshot number (operations.Read file offset size read_flags lock_owner flags) =
       by_answer (Grows (Ends (snapshot_read side number offset size))) tt
+  of_snapshot number (operations.OpenDirectory flags) =
+      if_of_snapshots number (open_one side) (AtOnce (snapshot_open side number))
+      (snapshots_open side) (at_once (snapshot_open side number))
   of_snapshot number (operations.ReadDirectory file offset size) =
-      by_answer (Grows (Ends (snapshot_read_directory side number offset size))) tt
+      if_of_snapshots number (read_snapshots side file offset size)
+      (ByAnswer (Grows (Ends (snapshot_read_directory side number offset size))))
+      (snapshots_read side file offset size)
+      (by_answer (Grows (Ends (snapshot_read_directory side number offset size))) tt)
+  of_snapshot number (operations.ReleaseDirectory file flags) =
+      if_of_snapshots number (Ends (Ok (outcomes.Done, close_directory side file))) nothing
+      (directories_close side file outcomes.Done) (at_once (Ok outcomes.Done))
   of_snapshot number _ = at_once _
 
   -- ---- each request

@@ -11,7 +11,7 @@ use Rattle.nv_mount_beside.specs.Names.{node_named}
 use Rattle.nv_mount_beside.specs.declared.outcome.Outcome.{Outcome}
 use Rattle.nv_mount_beside.specs.declared.outcome.Outcome.TheVariants as outcomes
 use Rattle.nv_mount_beside.specs.declared.refusal.Refusal.{Refusal}
-use Rattle.nv_mounted.specs.Dialogues.{Asks, Dialogue, Ends, Grows, IsHad}
+use Rattle.nv_mounted.specs.Dialogues.{Asks, Dialogue, Ends, Grows, GrowsOr, IsHad}
 use Rattle.nv_mounted.specs.Side.{at_node}
 use Rattle.nv_mounted.specs.Talks.{is_unopened, open_node, release, release_opened, rmdir, unlink, unopened_in}
 use Rattle.nv_mounted.specs.declared.side.Side.{Side}
@@ -37,6 +37,10 @@ pub stands_after : {A : Type 0} (d : Dialogue A) (old new : Serial) (end : Resul
 stands_after (Ends told) old new end stands had = subst CanStand (sym had.1) stands
 stands_after (Grows rest) old new end stands (inl had) = subst CanStand (sym had.1) stands
 stands_after (Grows rest) old new end stands (inr had) = stands_after rest old new end stands had
+stands_after (GrowsOr refused rest) old new end stands (inl had) =
+    stands_after refused old new end stands had
+stands_after (GrowsOr refused rest) old new end stands (inr had) =
+    stands_after rest old new end stands had
 stands_after (Asks call rest) old new end stands had =
     stands_after (rest had.0) had.1 new end had.2.stands had.3
 

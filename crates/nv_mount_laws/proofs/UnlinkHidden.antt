@@ -12,7 +12,7 @@ use Rattle.nv_entry.specs.declared.node.NodeCopy.{NodeCopy}
 use Rattle.nv_entry.proofs.Hiding.{same_name-self}
 use Rattle.nv_machine.proofs.DirectoriesStay.{same_self}
 use Rattle.nv_mount_answers.specs.declared.kept.Time.{Time}
-use Rattle.nv_mount_beside.specs.Beside.{named}
+use Rattle.nv_mount_beside.specs.Beside.{named, renamed}
 use Rattle.nv_mount_beside.specs.declared.beside.Beside.{Beside}
 use Rattle.nv_mounted.specs.Side.{at_node, put_node, touched}
 use Rattle.nv_mounted.specs.Talks.{is_open_file}
@@ -93,7 +93,8 @@ module _ (old new : Serial) (side between : Side) (now : Time) (dir : Handle) (n
     (handle : Handle) (was : AreHidden old side) (well : IsWell old)
     (bound : lookup (copies_now old) dir name ≡ Some handle)
     (file : kind_of (copies_now old handle) ≡ Some File)
-    (opened : 0 < (at_node side handle).opens) (hides : Hides old side dir name handle new between)
+    (opened : 0 < (at_node side handle).opens)
+    (hides : Hides old side now dir name handle new between)
   where
     abbrev more : List ℕ
     more = hides.more
@@ -113,7 +114,7 @@ module _ (old new : Serial) (side between : Side) (now : Time) (dir : Handle) (n
     dir_node = there_by Dir (copies_now old dir) passed.from_is
 
     abbrev b : Beside
-    b = named false (at_node side handle)
+    b = renamed now (named false (at_node side handle))
 
     own : b.generation ≡ handle.generation
     own = beside_generation side.nodes handle
@@ -285,7 +286,7 @@ module _ (old new : Serial) (side new_side : Side) (now : Time) (number : ℕ) (
   pub unlink_hidden : AreHidden new new_side
   unlink_hidden = subst (λ (s : Side). AreHidden new s) (sym done.side_is) (go done.away) where
     go : ((is_open_file side done.handle done.shape ≡ true)
-        × Hides old side done.dir done.name done.handle new done.between)
+        × Hides old side now done.dir done.name done.handle new done.between)
         ⊎ ((is_open_file side done.handle done.shape ≡ false)
         × Takes old side done.dir done.name new done.between)
         → AreHidden new (touched now done.dir done.between)
@@ -302,7 +303,7 @@ module _ (old new : Serial) (side new_side : Side) (now : Time) (number : ℕ) (
       → (at_node new_side h).opens ≡ (at_node side h).opens
   unlink_opens h n there = ap (λ (s : Side). (at_node s h).opens) done.side_is ∙ go done.away where
     go : ((is_open_file side done.handle done.shape ≡ true)
-        × Hides old side done.dir done.name done.handle new done.between)
+        × Hides old side now done.dir done.name done.handle new done.between)
         ⊎ ((is_open_file side done.handle done.shape ≡ false)
         × Takes old side done.dir done.name new done.between)
         → (at_node (touched now done.dir done.between) h).opens ≡ (at_node side h).opens
@@ -315,7 +316,7 @@ module _ (old new : Serial) (side new_side : Side) (now : Time) (number : ℕ) (
   pub unlink_open : KeepsOpenFiles side old new
   unlink_open = go done.away where
     go : ((is_open_file side done.handle done.shape ≡ true)
-        × Hides old side done.dir done.name done.handle new done.between)
+        × Hides old side now done.dir done.name done.handle new done.between)
         ⊎ ((is_open_file side done.handle done.shape ≡ false)
         × Takes old side done.dir done.name new done.between)
         → KeepsOpenFiles side old new

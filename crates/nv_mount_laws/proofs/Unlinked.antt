@@ -9,14 +9,13 @@ use Rattle.nv_calls.specs.Refusals.{kind_of, lookup}
 use Rattle.nv_calls.specs.declared.call.Call.TheVariants as calls
 use Rattle.nv_mount_answers.specs.declared.kept.Shape.{Shape}
 use Rattle.nv_mount_answers.specs.declared.kept.Time.{Time}
-use Rattle.nv_mount_beside.specs.Beside.{named}
 use Rattle.nv_mount_beside.specs.Names.{free_name, node_named}
 use Rattle.nv_mount_beside.specs.declared.outcome.Outcome.{Outcome}
 use Rattle.nv_mount_beside.specs.declared.outcome.Outcome.TheVariants as outcomes
 use Rattle.nv_mounted.specs.Asks.{ask_done, ask_handle, ask_shape}
 use Rattle.nv_mounted.specs.Dialogues.{Dialogue, Ends, Grows, IsHad, ◌>>=◌}
-use Rattle.nv_mounted.specs.Side.{at_node, put_node, touched}
-use Rattle.nv_mounted.specs.Talks.{hidden_name_for, hide, is_file, is_open_file, take_away, unlink}
+use Rattle.nv_mounted.specs.Side.{at_node, touched}
+use Rattle.nv_mounted.specs.Talks.{hidden_name_for, hidden_now, hide, is_file, is_open_file, take_away, unlink}
 use Rattle.nv_mounted.specs.declared.side.Side.{Side}
 use Rattle.nv_serial.specs.Serial.{Serial, copies_now}
 use Rattle.nv_mount_laws.specs.World.{Calls}
@@ -24,12 +23,12 @@ use Rattle.nv_mount_laws.proofs.Asked.{Answered, done_asked, grown, looked_up, s
 use Rattle.nv_mount_laws.proofs.Dialogues.{side_told, went_on}
 
 -- an open file was moved among the hidden ones
-pub record Hides (old : Serial) (side : Side) (dir : Handle) (name : List ℕ) (handle : Handle)
+pub record Hides (old : Serial) (side : Side) (now : Time) (dir : Handle) (name : List ℕ) (handle : Handle)
     (new : Serial) (new_side : Side) : Type 0 where
   pub more : List ℕ
   pub numbered : hidden_name_for handle ≡ Ok more
   pub moved : Answered old (calls.Rename dir name side.hidden more) new
-  pub side_is : new_side ≡ put_node handle (named false (at_node side handle)) side
+  pub side_is : new_side ≡ hidden_now now handle side
 
 -- a name was taken away, of what is no open file
 pub record Takes (old : Serial) (side : Side) (dir : Handle) (name : List ℕ) (new : Serial)
@@ -37,11 +36,11 @@ pub record Takes (old : Serial) (side : Side) (dir : Handle) (name : List ℕ) (
   pub gone : Answered old (calls.Unlink dir name) new
   pub side_is : new_side ≡ side
 
-pub hidden_by : (old : Serial) (side : Side) (dir : Handle) (name : List ℕ) (handle : Handle)
+pub hidden_by : (old : Serial) (side : Side) (now : Time) (dir : Handle) (name : List ℕ) (handle : Handle)
     (new : Serial) (new_side : Side)
-    → IsHad Calls (hide side dir name handle) old (Ok (tt, new_side)) new
-    → Hides old side dir name handle new new_side
-hidden_by old side dir name handle new new_side had =
+    → IsHad Calls (hide side now dir name handle) old (Ok (tt, new_side)) new
+    → Hides old side now dir name handle new new_side
+hidden_by old side now dir name handle new new_side had =
     let first = went_on Calls _ (Grows (Ends (hidden_name_for handle))) old new (tt, new_side) had
     in
     let named_so = grown (hidden_name_for handle) old first.between first.value first.first in
@@ -58,7 +57,7 @@ hidden_by old side dir name handle new new_side had =
           named_so.1
           (subst (λ (s : Serial). Answered first.between (calls.Rename dir name side.hidden more) s)
           (sym second.then.1) moved);
-      side_is = side_told tt tt new_side (put_node handle (named false (at_node side handle)) side)
+      side_is = side_told tt tt new_side (hidden_now now handle side)
           second.then.0;
     }
 
@@ -91,22 +90,22 @@ pub record Unlinks (old : Serial) (side : Side) (now : Time) (number : ℕ) (fil
   pub kind : kind_of (copies_now old handle) ≡ Some shape.kind
   pub between : Side
   pub side_is : new_side ≡ touched now dir between
-  pub away : ((is_open_file side handle shape ≡ true) × Hides old side dir name handle new between)
+  pub away : ((is_open_file side handle shape ≡ true) × Hides old side now dir name handle new between)
       ⊎ ((is_open_file side handle shape ≡ false) × Takes old side dir name new between)
 
-away_by : (old : Serial) (side : Side) (dir : Handle) (name : List ℕ) (handle : Handle)
+away_by : (old : Serial) (side : Side) (now : Time) (dir : Handle) (name : List ℕ) (handle : Handle)
     (shape : Shape) (new : Serial) (between : Side)
-    → IsHad Calls (take_away side dir name handle shape) old (Ok (tt, between)) new
-    → ((is_open_file side handle shape ≡ true) × Hides old side dir name handle new between)
+    → IsHad Calls (take_away side now dir name handle shape) old (Ok (tt, between)) new
+    → ((is_open_file side handle shape ≡ true) × Hides old side now dir name handle new between)
     ⊎ ((is_open_file side handle shape ≡ false) × Takes old side dir name new between)
-away_by old side dir name handle shape new between had =
+away_by old side now dir name handle shape new between had =
     go (is_open_file side handle shape) refl had where
       go : (b : Bool) → is_open_file side handle shape ≡ b
-          → IsHad Calls (if b then hide side dir name handle else take side dir name) old
+          → IsHad Calls (if b then hide side now dir name handle else take side dir name) old
           (Ok (tt, between)) new
-          → ((is_open_file side handle shape ≡ true) × Hides old side dir name handle new between)
+          → ((is_open_file side handle shape ≡ true) × Hides old side now dir name handle new between)
           ⊎ ((is_open_file side handle shape ≡ false) × Takes old side dir name new between)
-      go true is h = inl (is, hidden_by old side dir name handle new between h)
+      go true is h = inl (is, hidden_by old side now dir name handle new between h)
       go false is h = inr (is, taken_by old side dir name new between h)
 
 pub unlinks : (old : Serial) (side : Side) (now : Time) (number : ℕ) (file : List ℕ) (new : Serial)
@@ -130,12 +129,12 @@ unlinks old side now number file new outcome new_side had =
     let shape = d.value in
     let told = shape_asked c.between d.between handle shape d.first in
     let at_d : d.between ≡ old = told.1 ∙ at_c in
-    let e = went_on Calls _ (take_away side dir name handle shape) d.between new (outcome, new_side)
+    let e = went_on Calls _ (take_away side now dir name handle shape) d.between new (outcome, new_side)
     d.then in
-    let gone : IsHad Calls (take_away side dir name handle shape) old (Ok (tt, e.value.1)) new =
-    subst (λ (s : Serial). IsHad Calls (take_away side dir name handle shape) s (Ok (tt, e.value.1))
+    let gone : IsHad Calls (take_away side now dir name handle shape) old (Ok (tt, e.value.1)) new =
+    subst (λ (s : Serial). IsHad Calls (take_away side now dir name handle shape) s (Ok (tt, e.value.1))
     new) at_d
-    (subst (λ (s : Serial). IsHad Calls (take_away side dir name handle shape) d.between
+    (subst (λ (s : Serial). IsHad Calls (take_away side now dir name handle shape) d.between
     (Ok (tt, e.value.1)) s) (sym e.then.1) e.first) in
     record {
       dir = dir;
@@ -148,7 +147,7 @@ unlinks old side now number file new outcome new_side had =
       kind = subst (λ (s : Serial). kind_of (copies_now s handle) ≡ Some shape.kind) at_c told.0;
       between = e.value.1;
       side_is = side_told outcome outcomes.Done new_side (touched now dir e.value.1) e.then.0;
-      away = away_by old side dir name handle shape new e.value.1 gone;
+      away = away_by old side now dir name handle shape new e.value.1 gone;
     }
 
 -- ---- open files

@@ -5,4 +5,5 @@ pub mod Numbers
 pub mod Open
 pub mod Refused
 pub mod Requests
+pub mod Snapshots
 pub mod World

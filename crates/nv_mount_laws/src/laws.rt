@@ -20,6 +20,7 @@ ghost use Rattle.nv_mount_laws.specs.Mounts.{IsMountBehind, Step};
 ghost use Rattle.nv_mount_laws.specs.Numbers.{TellsFound, TellsItself, TellsMade};
 ghost use Rattle.nv_mount_laws.specs.Open.{LeavesOpenFiles, LeavesOpens, LeavesOtherFiles, LeavesReplaced, OpensMade};
 ghost use Rattle.nv_mount_laws.specs.Requests.{RequestsKeepHidden, RequestsLeaveOpenFiles};
+ghost use Rattle.nv_mount_laws.specs.Snapshots.{TellsAsThen};
 ghost use Rattle.nv_mount_laws.specs.Refused.{ChangesNothing, IsPartlySet, IsUnnumbered, RefusedChanges, RefusedChangesNothing, RenameChanges};
 
 /// A mount of files is one of the plain world as which they stand: so all laws of the plain world
@@ -167,9 +168,9 @@ pub fn open_files_outlive_their_names()
     ensures release { (side : Side) (now : Time) (number : ℕ) → number < 2 ^ 64
         → LeavesOpenFiles (release_file side now number) side }
     // A file that moves over an open one leaves that as it is, also where it stays hidden.
-    ensures replaced { (side : Side) (from : Handle) (old : List ℕ) (to : Handle) (new : List ℕ)
-        (there : Handle)
-        → LeavesReplaced (move_over_open side from old to new there) side to new there }
+    ensures replaced { (side : Side) (now : Time) (moved from : Handle) (old : List ℕ)
+        (to : Handle) (new : List ℕ) (there : Handle)
+        → LeavesReplaced (move_over_open side now moved from old to new there) side to new there }
     // A rename leaves each open file as it is, also the one whose name it takes.
     ensures rename { (side : Side) (now : Time) (from : ℕ) (old : List ℕ) (to : ℕ) (new : List ℕ)
         (flags : ℕ) → NamesAnother side from → NamesAnother side to
@@ -247,4 +248,11 @@ pub fn told_numbers_name_their_nodes()
     // It tells that of a file that it opened.
     ensures create { (side : Side) (now : Time) (header : Header) (mode : ℕ) (name : List ℕ)
         → TellsMade (create side now header mode name) side header.node name }
+{}
+
+/// A snapshot tells of each node what the mount told of it when the snapshot was made, without
+/// set-user-id and set-group-id.
+pub fn snapshots_tell_what_was_told()
+    // Owners, times, kind, size and the other bits of the mode are those of that moment.
+    ensures { (side : Side) (name : List ℕ) → TellsAsThen side name }
 {}

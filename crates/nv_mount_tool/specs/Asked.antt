@@ -1,5 +1,5 @@
 -- What one actor of a world is answered.
-use Rattle.std.specs.Prelude.{◌≡◌, Result, Ok, Err}
+use Rattle.std.specs.Prelude.{◌≡◌, length, Result, Ok, Err}
 use Rattle.nv_base.specs.declared.fault.Fault.{Fault}
 use Rattle.nv_base.specs.declared.fault.Fault.TheVariants as faults
 use Rattle.nv_calls.specs.declared.answer.Answer.{Answer}
@@ -27,12 +27,14 @@ pub record Asks (old : WorldState) (call : Call) (result : Result Answer Fault) 
   -- the call leads from one world to the other
   pub leads : Leads (λ m n. Calls m 0 call (last_reply last) n) old new
 
--- the numbers of a world's geometry, and the free blocks of one scan
+-- the numbers of a world's geometry, the inode numbers of its pool, and the free blocks of one scan
 pub record HasRoom (w : WorldState) (room : Room) : Type 0 where
   -- all blocks
   pub blocks : room.blocks ≡ w.shared.geometry.numbers.blocks
   -- all inode slots
   pub inodes : room.inodes ≡ w.shared.geometry.numbers.inodes
+  -- the inode numbers that are free
+  pub free_inodes : room.free_inodes ≡ length w.shared.pool.numbers
   -- how many bytes a block has
   pub block : room.block ≡ w.shared.geometry.numbers.block
   -- the free blocks of whatever world of the machine it shows

@@ -51,6 +51,7 @@ impl Core for OneActor {
             blocks: numbers.blocks,
             free: self.world.space().free,
             inodes: numbers.inodes,
+            free_inodes: self.world.free_inodes(),
             block: numbers.block,
         }
     }

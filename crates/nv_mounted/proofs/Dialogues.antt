@@ -7,7 +7,7 @@ use Rattle.nv_mount_beside.specs.Memory.{IsOrNoMemory}
 use Rattle.nv_mount_beside.specs.declared.refusal.Refusal.{Refusal}
 use Rattle.nv_mounted.specs.Side.{Does}
 use Rattle.nv_mounted.specs.declared.side.Side.{Side}
-use Rattle.nv_mounted.specs.Dialogues.{Asks, Dialogue, Ends, Grows, IsHad, ◌>>=◌}
+use Rattle.nv_mounted.specs.Dialogues.{Asks, Dialogue, Ends, Grows, GrowsOr, IsHad, ◌>>=◌}
 
 -- the value of a result, or another one where it is a refusal
 abbrev value_of : {A : Type 0} → A → Result A Refusal → A
@@ -15,11 +15,11 @@ value_of other (Ok a) = a
 value_of other (Err refusal) = other
 
 -- the refusal of a result, or another one where it is a value
-abbrev refusal_of : {A : Type 0} → Refusal → Result A Refusal → Refusal
+abbrev pub refusal_of : {A : Type 0} → Refusal → Result A Refusal → Refusal
 refusal_of other (Ok a) = other
 refusal_of other (Err refusal) = refusal
 
-abbrev IsValue : {A : Type 0} → Result A Refusal → Type 0
+abbrev pub IsValue : {A : Type 0} → Result A Refusal → Type 0
 IsValue (Ok a) = Unit {0}
 IsValue (Err refusal) = ⊥
 
@@ -38,6 +38,10 @@ goes_on Tells (Grows rest) next old between new a end (inl first) then =
     absurd (subst IsValue first.0 tt)
 goes_on Tells (Grows rest) next old between new a end (inr first) then =
     inr (goes_on Tells rest next old between new a end first then)
+goes_on Tells (GrowsOr refused rest) next old between new a end (inl first) then =
+    inl (goes_on Tells refused next old between new a end first then)
+goes_on Tells (GrowsOr refused rest) next old between new a end (inr first) then =
+    inr (goes_on Tells rest next old between new a end first then)
 goes_on Tells (Asks call rest) next old between new a end first then =
     let later = goes_on Tells (rest first.0) next first.1 between new a end first.3 then in
     (first.0, first.1, first.2, later)
@@ -53,6 +57,10 @@ stops Tells (Ends (Err other)) next old new refusal first =
 stops Tells (Grows rest) next old new refusal (inl first) =
     inl (ap (λ r. Err (refusal_of refusal r)) first.0, first.1)
 stops Tells (Grows rest) next old new refusal (inr first) =
+    inr (stops Tells rest next old new refusal first)
+stops Tells (GrowsOr refused rest) next old new refusal (inl first) =
+    inl (stops Tells refused next old new refusal first)
+stops Tells (GrowsOr refused rest) next old new refusal (inr first) =
     inr (stops Tells rest next old new refusal first)
 stops Tells (Asks call rest) next old new refusal first =
     (first.0, first.1, first.2, stops Tells (rest first.0) next first.1 new refusal first.3)

@@ -10,7 +10,7 @@ use Rattle.nv_mount_beside.specs.Memory.{no_memory}
 use Rattle.nv_mount_beside.specs.Names.{number_of}
 use Rattle.nv_mount_beside.specs.declared.refusal.Refusal.{Refusal}
 use Rattle.nv_mounted.specs.Asks.{shape_told}
-use Rattle.nv_mounted.specs.Dialogues.{Asks, Dialogue, Ends, Grows, IsHad, ask_each, ◌>>=◌}
+use Rattle.nv_mounted.specs.Dialogues.{Asks, Dialogue, Ends, Grows, GrowsOr, IsHad, ask_each, ◌>>=◌}
 use Rattle.nv_mounted.specs.Listings.{ask_behind, ask_named, listed_kind}
 use Rattle.nv_mounted.specs.declared.listing.Named.{Named}
 use Rattle.nv_mounted.proofs.Dialogues.{goes_on, stops}
@@ -23,6 +23,8 @@ grouped Tells (Ends (Ok a)) f g old new end had = had
 grouped Tells (Ends (Err refusal)) f g old new end had = had
 grouped Tells (Grows rest) f g old new end (inl had) = inl had
 grouped Tells (Grows rest) f g old new end (inr had) = inr (grouped Tells rest f g old new end had)
+grouped Tells (GrowsOr refused rest) f g old new end (inl had) = inl (grouped Tells refused f g old new end had)
+grouped Tells (GrowsOr refused rest) f g old new end (inr had) = inr (grouped Tells rest f g old new end had)
 grouped Tells (Asks call rest) f g old new end had = (had.0, had.1, had.2, grouped Tells (rest had.0) f g had.1 new end had.3)
 
 -- one more name was asked about

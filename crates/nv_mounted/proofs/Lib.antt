@@ -1,3 +1,4 @@
+pub mod Asked
 pub mod Children
 pub mod Dialogues
 pub mod Each
@@ -7,3 +8,4 @@ pub mod Names
 pub mod Opened
 pub mod Places
 pub mod Steps
+pub mod Undone

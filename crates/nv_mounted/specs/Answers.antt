@@ -20,12 +20,12 @@ use Rattle.nv_mount_beside.specs.declared.refusal.Refusal.{Refusal}
 use Rattle.nv_mounted.specs.Contents.{Statfs, fallocate, read_bytes, write_bytes}
 use Rattle.nv_mounted.specs.Dialogues.{Dialogue, Ends, Grows, IsHad}
 use Rattle.nv_mounted.specs.Entries.{lookup}
-use Rattle.nv_mounted.specs.Listings.{close_directory, open_directory, read_directory}
+use Rattle.nv_mounted.specs.Listings.{close_directory, open_directory, open_one, read_directory}
 use Rattle.nv_mounted.specs.Makings.{create, mkdir, mknod}
 use Rattle.nv_mounted.specs.Renames.{rename}
 use Rattle.nv_mounted.specs.Sets.{set_attributes}
 use Rattle.nv_mounted.specs.Side.{Does}
-use Rattle.nv_mounted.specs.Snapshots.{drop_snapshot, is_of_snapshots, make_snapshot, snapshot_get_attributes, snapshot_lookup, snapshot_open, snapshot_read, snapshot_read_directory, snapshots_node}
+use Rattle.nv_mounted.specs.Snapshots.{drop_snapshot, is_of_snapshots, make_snapshot, read_snapshots, snapshot_get_attributes, snapshot_lookup, snapshot_open, snapshot_read, snapshot_read_directory, snapshots_node}
 use Rattle.nv_mounted.specs.Talks.{get_attributes, open_node, release_file, rmdir, unlink}
 use Rattle.nv_mounted.specs.declared.world.Room.{Room}
 use Rattle.nv_mounted.specs.declared.side.Side.{Side}
@@ -100,10 +100,12 @@ answer_of side now header operations.Other = AtOnce (refused errno.NotImplemente
 
 -- ---- a node of a snapshot: it is read only, except that snapshots are made and dropped
 
--- of the directory of snapshots alone
-abbrev pub if_snapshots : ℕ → Dialogue (Outcome × Side) → Answering
-if_snapshots number talk =
-    if number == snapshots_node then ByChange talk else AtOnce (refused errno.ReadOnly)
+-- in the directory of snapshots, or else below it
+abbrev pub if_snapshots : ℕ → Dialogue (Outcome × Side) → Answering → Answering
+if_snapshots number talk below = if number == snapshots_node then ByChange talk else below
+
+abbrev pub read_only : Answering
+read_only = AtOnce (refused errno.ReadOnly)
 
 abbrev pub answer_in_snapshot : Side → ℕ → Operation → Answering
 answer_in_snapshot side number operations.Statfs = ByRoom
@@ -112,9 +114,9 @@ answer_in_snapshot side number (operations.Lookup name) =
 answer_in_snapshot side number (operations.Forget lookups) = AtOnce (Ok outcomes.Silent)
 answer_in_snapshot side number (operations.ForgetMany count) = AtOnce (Ok outcomes.Silent)
 answer_in_snapshot side number (operations.Mkdir mode umask name) =
-    if_snapshots number (make_snapshot side name.now)
+    if_snapshots number (make_snapshot side name.now) read_only
 answer_in_snapshot side number (operations.Rmdir name) =
-    if_snapshots number (drop_snapshot side name.now)
+    if_snapshots number (drop_snapshot side name.now) read_only
 answer_in_snapshot side number (operations.GetAttributes flags file) =
     AtOnce (snapshot_get_attributes side number)
 answer_in_snapshot side number (operations.Open flags) = AtOnce (snapshot_open side number)
@@ -124,14 +126,16 @@ answer_in_snapshot side number (operations.Flush file lock_owner) = nothing
 answer_in_snapshot side number (operations.Fsync file flags) = nothing
 answer_in_snapshot side number (operations.Release file flags release_flags lock_owner) = nothing
 answer_in_snapshot side number (operations.OpenDirectory flags) =
-    AtOnce (snapshot_open side number)
+    if_snapshots number (open_one side) (AtOnce (snapshot_open side number))
 answer_in_snapshot side number (operations.ReadDirectory file offset size) =
-    ByAnswer (Grows (Ends (snapshot_read_directory side number offset size)))
+    if_snapshots number (read_snapshots side file offset size)
+    (ByAnswer (Grows (Ends (snapshot_read_directory side number offset size))))
 answer_in_snapshot side number (operations.FsyncDirectory file flags) = nothing
-answer_in_snapshot side number (operations.ReleaseDirectory file flags) = nothing
+answer_in_snapshot side number (operations.ReleaseDirectory file flags) =
+    if_snapshots number (Ends (Ok (outcomes.Done, close_directory side file))) nothing
 answer_in_snapshot side number operations.Malformed = AtOnce (refused errno.Invalid)
 answer_in_snapshot side number operations.Other = AtOnce (refused errno.NotImplemented)
-answer_in_snapshot side number _ = AtOnce (refused errno.ReadOnly)
+answer_in_snapshot side number _ = read_only
 
 -- ---- the directory of hidden files, which no name leads to
 

@@ -63,14 +63,14 @@ fallocate side now number end mode =
 
 -- ---- the room that is left
 
--- what is told of a room: inodes are not counted
+-- what is told of a room: all that is free is for all users
 abbrev pub space_of : Room → Statistics
 space_of room = record {
   blocks = room.blocks;
   free_blocks = room.free;
   available_blocks = room.free;
-  inodes = 0;
-  free_inodes = 0;
+  inodes = room.inodes;
+  free_inodes = room.free_inodes;
   block_size = min room.block 4294967295;
   name_length = 255;
   fragment_size = min room.block 4294967295;

@@ -3,6 +3,7 @@ pub mod Asks
 pub mod Contents
 pub mod Dialogues
 pub mod Entries
+pub mod KeptTrees
 pub mod Listings
 pub mod Makings
 pub mod NewMounts

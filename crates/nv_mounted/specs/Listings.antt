@@ -80,16 +80,20 @@ with_one_more rows =
     if nat_lt (lowest_free rows) (length rows) then with_open (lowest_free rows) Unread rows
     else rows ++ Unread ∷ []
 
+-- a directory is open once more
+abbrev pub open_one : Side → Dialogue (Outcome × Side)
+open_one side =
+    Grows (Ends (Ok (
+      outcomes.Opened (record { file = lowest_free side.directories; flags = 0 }),
+      record side { directories = with_one_more side.directories },
+    )))
+
 -- open a directory
 abbrev pub open_directory : Side → ℕ → Dialogue (Outcome × Side)
 open_directory side number =
     Ends (node_named number) >>= λ dir.
     ask_shape dir >>= λ shape.
-    if is_file shape then Ends (refused errno.NotDirectory)
-    else Grows (Ends (Ok (
-      outcomes.Opened (record { file = lowest_free side.directories; flags = 0 }),
-      record side { directories = with_one_more side.directories },
-    )))
+    if is_file shape then Ends (refused errno.NotDirectory) else open_one side
 
 -- release an open directory
 abbrev pub close_directory : Side → ℕ → Side
@@ -137,22 +141,22 @@ list_read side offset room names =
     Grows (Ends (Ok (outcomes.Contents (listed_from offset room names), side)))
 
 -- a directory is read, and its names are listed and kept
-abbrev pub list_anew : Side → Handle → ℕ → ℕ → ℕ → Dialogue (Outcome × Side)
-list_anew side dir file offset room =
-    ask_listing dir >>= λ names.
+abbrev pub list_anew : Side → Dialogue (List Named) → ℕ → ℕ → ℕ → Dialogue (Outcome × Side)
+list_anew side asked file offset room =
+    asked >>= λ names.
     let read = record side { directories = with_open file (Read names) side.directories } in
     list_read read offset room names
 
 -- A directory that is open is read from its beginning at offset 0 and where it was not read yet. At
 -- any other offset the names are those that were read.
-abbrev pub list_open : Side → Handle → ℕ → ℕ → ℕ → Open → Dialogue (Outcome × Side)
-list_open side dir file room offset Closed = Ends (refused errno.Stale)
-list_open side dir file room offset Unread = list_anew side dir file offset room
-list_open side dir file room zero (Read names) = list_anew side dir file zero room
-list_open side dir file room (suc offset) (Read names) = list_read side (suc offset) room names
+abbrev pub list_open : Side → Dialogue (List Named) → ℕ → ℕ → ℕ → Open → Dialogue (Outcome × Side)
+list_open side asked file room offset Closed = Ends (refused errno.Stale)
+list_open side asked file room offset Unread = list_anew side asked file offset room
+list_open side asked file room zero (Read names) = list_anew side asked file zero room
+list_open side asked file room (suc offset) (Read names) = list_read side (suc offset) room names
 
 -- list names of an open directory from an offset on
 abbrev pub read_directory : Side → ℕ → ℕ → ℕ → ℕ → Dialogue (Outcome × Side)
 read_directory side number file offset room =
     Ends (node_named number) >>= λ dir.
-    list_open side dir file room offset (open_under file side.directories)
+    list_open side (ask_listing dir) file room offset (open_under file side.directories)

@@ -12,14 +12,16 @@ use Rattle.nv_mount_answers.specs.Kept.{attributes_of}
 use Rattle.nv_mount_answers.specs.declared.kept.Shape.{Shape}
 use Rattle.nv_mount_answers.specs.declared.kept.Time.{Time}
 use Rattle.nv_mount_beside.specs.Beside.{new_beside, opened}
+use Rattle.nv_mount_beside.specs.Inherited.{mode_in, owner_in}
 use Rattle.nv_mount_beside.specs.Names.{free_name, node_named, number_of, refused}
 use Rattle.nv_mount_beside.specs.Shown.{entry_of, opened_file}
 use Rattle.nv_mount_beside.specs.declared.beside.Beside.{Beside}
+use Rattle.nv_mount_beside.specs.declared.inherited.Owner.{Owner}
 use Rattle.nv_mount_beside.specs.declared.outcome.Outcome.{Outcome}
 use Rattle.nv_mount_beside.specs.declared.outcome.Outcome.TheVariants as outcomes
-use Rattle.nv_mounted.specs.Asks.{ask_handle}
+use Rattle.nv_mounted.specs.Asks.{ask_handle, ask_shape}
 use Rattle.nv_mounted.specs.Dialogues.{Dialogue, Ends, Grows, ◌>>=◌}
-use Rattle.nv_mounted.specs.Side.{put_node, touched}
+use Rattle.nv_mounted.specs.Side.{at_node, put_node, touched}
 use Rattle.nv_mounted.specs.declared.side.Side.{Side}
 
 -- the twelve lower bits of a mode
@@ -39,24 +41,37 @@ making kinds.Dir dir name mode = calls.Mkdir dir name mode
 abbrev pub empty_shape : Kind → ℕ → Shape
 empty_shape kind mode = record { kind = kind; mode = permissions mode; size = 0 }
 
--- it belongs to who asks, and is open once or not at all
-abbrev pub made_beside : Time → Header → Bool → Handle → Beside
-made_beside now header opens handle =
-    let new = new_beside handle.generation now header.user header.group in
+-- it belongs to its owner, and is open once or not at all
+abbrev pub made_beside : Time → Owner → Bool → Handle → Beside
+made_beside now owner opens handle =
+    let new = new_beside handle.generation now owner.user owner.group in
     if opens then opened new else new
 
--- make a node, by which its directory is changed too
-abbrev pub make : Side → Time → Header → Kind → ℕ → List ℕ → Bool → Dialogue (Attributes × Side)
-make side now header kind mode file opens =
-    Ends (node_named header.node) >>= λ dir.
+-- make a node that is an owner's, by which its directory is changed too
+abbrev pub make_owned : Side → Time → Handle → Owner → Kind → ℕ → List ℕ → Bool
+    → Dialogue (Attributes × Side)
+make_owned side now dir owner kind mode file opens =
     Grows (Ends (free_name dir file)) >>= λ name.
     ask_handle (making kind dir name (permissions mode)) >>= λ handle.
     Ends (number_of handle) >>= λ node.
-    let beside = made_beside now header opens handle in
+    let beside = made_beside now owner opens handle in
     Ends (Ok (
       attributes_of node (empty_shape kind mode) beside.kept,
       touched now dir (put_node handle beside side),
     ))
+
+-- the owner of a node that a request makes in a directory of this mode
+abbrev pub owner_made : Side → Handle → ℕ → Header → Owner
+owner_made side dir dir_mode header =
+    owner_in dir_mode (at_node side dir).kept.group header.user header.group
+
+-- make a node, which has of its directory what that passes on
+abbrev pub make : Side → Time → Header → Kind → ℕ → List ℕ → Bool → Dialogue (Attributes × Side)
+make side now header kind mode file opens =
+    Ends (node_named header.node) >>= λ dir.
+    ask_shape dir >>= λ parent.
+    make_owned side now dir (owner_made side dir parent.mode header) kind
+    (mode_in parent.mode kind mode) file opens
 
 -- make a file, which nobody has opened; no other kind of node is made so
 abbrev pub mknod : Side → Time → Header → ℕ → List ℕ → Dialogue (Outcome × Side)

@@ -12,7 +12,7 @@ use Rattle.nv_calls.specs.declared.call.Call.{Call}
 use Rattle.nv_calls.specs.declared.call.Call.TheVariants as calls
 use Rattle.nv_fuse.specs.declared.errno.Errno.TheVariants as errno
 use Rattle.nv_mount_answers.specs.declared.kept.Time.{Time}
-use Rattle.nv_mount_beside.specs.Beside.{named}
+use Rattle.nv_mount_beside.specs.Beside.{renamed}
 use Rattle.nv_mount_beside.specs.Names.{errno_told, free_name, node_named, refused}
 use Rattle.nv_mount_beside.specs.declared.outcome.Outcome.{Outcome}
 use Rattle.nv_mount_beside.specs.declared.outcome.Outcome.TheVariants as outcomes
@@ -21,7 +21,7 @@ use Rattle.nv_mount_beside.specs.declared.refusal.Refusal.TheVariants as refusal
 use Rattle.nv_mounted.specs.Asks.{ask, ask_done, ask_handle, ask_shape, faulted, other_kind}
 use Rattle.nv_mounted.specs.Dialogues.{Asks, Dialogue, Ends, Grows, ◌>>=◌}
 use Rattle.nv_mounted.specs.Side.{at_node, put_node, touched}
-use Rattle.nv_mounted.specs.Talks.{hidden_name_for}
+use Rattle.nv_mounted.specs.Talks.{hidden_name_for, hidden_now}
 use Rattle.nv_mounted.specs.declared.rename.Moves.{Moves}
 use Rattle.nv_mounted.specs.declared.rename.Way.{Way}
 use Rattle.nv_mounted.specs.declared.rename.Way.TheVariants as ways
@@ -60,10 +60,9 @@ is_directory kind = elim kind [ kinds.File ↦ false | kinds.Dir ↦ true ]
 abbrev pub leaves_directory : Kind → Handle → Handle → Bool
 leaves_directory kind from to = is_directory kind && not (same_handle from to)
 
--- what stands in the way of a rename, to which no directory leaves its own
-abbrev pub ask_way : Side → Handle → List ℕ → Handle → List ℕ → ℕ → Dialogue Way
-ask_way side from old to new flags =
-    ask_handle (calls.Lookup from old) >>= λ moved.
+-- what stands in the way of a node that moves, to which no directory leaves its own
+abbrev pub ask_way : Side → Handle → Handle → Handle → List ℕ → ℕ → Dialogue Way
+ask_way side moved from to new flags =
     ask_shape moved >>= λ shape.
     if leaves_directory shape.kind from to then Ends (refused errno.CrossDevice)
     else ask (calls.Lookup to new) there_told >>= λ there.
@@ -80,27 +79,32 @@ abbrev pub move_over_directory : Handle → List ℕ → Handle → List ℕ →
 move_over_directory from old to new =
     Grows (ask_done (calls.Rmdir to new)) >>= λ gone. ask_done (calls.Rename from old to new)
 
--- a file that has gone among the hidden ones
-abbrev pub hidden_now : Side → Handle → Side
-hidden_now side there = put_node there (named false (at_node side there)) side
+-- a node that has moved at a time
+abbrev pub moved_now : Time → Handle → Side → Side
+moved_now now moved side = put_node moved (renamed now (at_node side moved)) side
 
 -- after a refused move the file at the new name is back, or has stayed hidden
-abbrev pub back_or_hidden : Side → Handle → Fault → Result Answer Fault → Dialogue (Outcome × Side)
-back_or_hidden side there fault (Ok answer) = Ends (faulted fault)
-back_or_hidden side there fault (Err other) =
-    Ends (Ok (outcomes.Refused (errno_told (refusals.Fault fault)), hidden_now side there))
+abbrev pub back_or_hidden : Side → Time → Handle → Fault → Result Answer Fault
+    → Dialogue (Outcome × Side)
+back_or_hidden side now there fault (Ok answer) = Ends (faulted fault)
+back_or_hidden side now there fault (Err other) =
+    Ends (Ok (outcomes.Refused (errno_told (refusals.Fault fault)), hidden_now now there side))
 
 -- the file at the new name is moved back
-abbrev pub taken_back : Side → Handle → Call → Fault → Dialogue (Outcome × Side)
-taken_back side there back fault = Asks back (back_or_hidden side there fault)
+abbrev pub taken_back : Side → Time → Handle → Call → Fault → Dialogue (Outcome × Side)
+taken_back side now there back fault = Asks back (back_or_hidden side now there fault)
 
 -- where the second move is refused, the first is taken back
-abbrev pub moved_or_back : Side → Handle → Call → Result Answer Fault → Dialogue (Outcome × Side)
-moved_or_back side there back (Ok answer) = Ends (Ok (outcomes.Done, hidden_now side there))
-moved_or_back side there back (Err fault) = taken_back side there back fault
+abbrev pub moved_or_back : Side → Time → Handle → Handle → Call → Result Answer Fault
+    → Dialogue (Outcome × Side)
+moved_or_back side now moved there back (Ok answer) =
+    Ends (Ok (outcomes.Done, moved_now now moved (hidden_now now there side)))
+moved_or_back side now moved there back (Err fault) = taken_back side now there back fault
 
-abbrev pub move_or_take_back : Side → Handle → Call → Call → Dialogue (Outcome × Side)
-move_or_take_back side there over back = Asks over (moved_or_back side there back)
+abbrev pub move_or_take_back : Side → Time → Handle → Handle → Call → Call
+    → Dialogue (Outcome × Side)
+move_or_take_back side now moved there over back =
+    Asks over (moved_or_back side now moved there back)
 
 -- The moves of a file over an open one: that goes among the hidden ones, the other goes to its
 -- name, and if need be the first comes back.
@@ -112,43 +116,50 @@ moves_over hidden_dir hidden from old to new = record {
 }
 
 -- a file moves over an open one
-abbrev pub move_over_open : Side → Handle → List ℕ → Handle → List ℕ → Handle
+abbrev pub move_over_open : Side → Time → Handle → Handle → List ℕ → Handle → List ℕ → Handle
     → Dialogue (Outcome × Side)
-move_over_open side from old to new there =
+move_over_open side now moved from old to new there =
     Grows (Ends (hidden_name_for there)) >>= λ hidden.
     let moves = moves_over side.hidden hidden from old to new in
     ask_done moves.away >>= λ gone.
-    move_or_take_back side there moves.over moves.back
+    move_or_take_back side now moved there moves.over moves.back
 
 -- both directories have changed
 abbrev pub both_touched : Time → Handle → Handle → Side → Side
 both_touched now from to side = touched now to (touched now from side)
 
--- each move, by which both directories change
-abbrev pub move_freely : Side → Time → Handle → List ℕ → Handle → List ℕ → Dialogue (Outcome × Side)
-move_freely side now from old to new =
-    move_name from old to new >>= λ moved.
-    Ends (Ok (outcomes.Done, both_touched now from to side))
+-- so has the node that moved from one to the other
+abbrev pub all_touched : Time → Handle → Handle → Handle → Side → Side
+all_touched now moved from to side = moved_now now moved (both_touched now from to side)
 
-abbrev pub replace_directory : Side → Time → Handle → List ℕ → Handle → List ℕ
+-- each move, by which both directories and the node change
+abbrev pub move_freely : Side → Time → Handle → Handle → List ℕ → Handle → List ℕ
     → Dialogue (Outcome × Side)
-replace_directory side now from old to new =
-    move_over_directory from old to new >>= λ moved.
-    Ends (Ok (outcomes.Done, both_touched now from to side))
+move_freely side now moved from old to new =
+    move_name from old to new >>= λ done.
+    Ends (Ok (outcomes.Done, all_touched now moved from to side))
 
-abbrev pub replace_open : Side → Time → Handle → List ℕ → Handle → List ℕ → Handle
+abbrev pub replace_directory : Side → Time → Handle → Handle → List ℕ → Handle → List ℕ
     → Dialogue (Outcome × Side)
-replace_open side now from old to new there =
-    move_over_open side from old to new there >>= λ moved.
-    Ends (Ok (moved.0, both_touched now from to moved.1))
+replace_directory side now moved from old to new =
+    move_over_directory from old to new >>= λ done.
+    Ends (Ok (outcomes.Done, all_touched now moved from to side))
+
+abbrev pub replace_open : Side → Time → Handle → Handle → List ℕ → Handle → List ℕ → Handle
+    → Dialogue (Outcome × Side)
+replace_open side now moved from old to new there =
+    move_over_open side now moved from old to new there >>= λ done.
+    Ends (Ok (done.0, both_touched now from to done.1))
 
 -- the move on each way; where both names are of one node, nothing is done
-abbrev pub moved_by : Side → Time → Handle → List ℕ → Handle → List ℕ → Way
+abbrev pub moved_by : Side → Time → Handle → Handle → List ℕ → Handle → List ℕ → Way
     → Dialogue (Outcome × Side)
-moved_by side now from old to new ways.Same = Ends (Ok (outcomes.Done, side))
-moved_by side now from old to new ways.Free = move_freely side now from old to new
-moved_by side now from old to new ways.Directory = replace_directory side now from old to new
-moved_by side now from old to new (ways.Open there) = replace_open side now from old to new there
+moved_by side now moved from old to new ways.Same = Ends (Ok (outcomes.Done, side))
+moved_by side now moved from old to new ways.Free = move_freely side now moved from old to new
+moved_by side now moved from old to new ways.Directory =
+    replace_directory side now moved from old to new
+moved_by side now moved from old to new (ways.Open there) =
+    replace_open side now moved from old to new there
 
 -- give a node another name; of the flags only 1 is known
 abbrev pub rename : Side → Time → ℕ → List ℕ → ℕ → List ℕ → ℕ → Dialogue (Outcome × Side)
@@ -158,5 +169,6 @@ rename side now from old to new flags =
     if nat_lt 1 flags then Ends (refused errno.Invalid)
     else Grows (Ends (free_name source old)) >>= λ old_name.
     Grows (Ends (free_name target new)) >>= λ new_name.
-    ask_way side source old_name target new_name flags >>= λ way.
-    moved_by side now source old_name target new_name way
+    ask_handle (calls.Lookup source old_name) >>= λ moved.
+    ask_way side moved source target new_name flags >>= λ way.
+    moved_by side now moved source old_name target new_name way

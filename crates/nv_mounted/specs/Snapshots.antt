@@ -19,16 +19,19 @@ use Rattle.nv_fuse.specs.declared.errno.Errno.TheVariants as errno
 use Rattle.nv_mount_answers.specs.Nodes.{root}
 use Rattle.nv_mount_answers.specs.declared.kept.Kept.{Kept}
 use Rattle.nv_mount_answers.specs.declared.kept.Shape.{Shape}
+use Rattle.nv_mount_beside.specs.Beside.{AllBeside}
 use Rattle.nv_mount_beside.specs.Names.{checked_name, hidden, or_refused, refused}
-use Rattle.nv_mount_beside.specs.Shown.{attributes_if, entry_of, opened_file}
+use Rattle.nv_mount_beside.specs.Shown.{attributes_if, entry_of, opened_file, shape_in_snapshot}
 use Rattle.nv_mount_beside.specs.declared.outcome.Outcome.{Outcome}
 use Rattle.nv_mount_beside.specs.declared.outcome.Outcome.TheVariants as outcomes
 use Rattle.nv_mount_beside.specs.declared.refusal.Refusal.{Refusal}
 use Rattle.nv_mounted.specs.Asks.{ask, ask_done, faulted, other_kind}
-use Rattle.nv_mounted.specs.Dialogues.{Asks, Dialogue, Ends, Grows, ◌>>=◌, and_then}
-use Rattle.nv_mounted.specs.Listings.{listed_from, listed_kind}
+use Rattle.nv_mounted.specs.Dialogues.{Asks, Dialogue, Ends, Grows, ◌>>=◌, and_then, undoing}
+use Rattle.nv_mounted.specs.KeptTrees.{ask_kept_tree}
+use Rattle.nv_mounted.specs.Listings.{list_anew, list_open, listed_from, listed_kind, open_under}
 use Rattle.nv_mounted.specs.Side.{at_node}
 use Rattle.nv_mounted.specs.declared.found.Found.{Found}
+use Rattle.nv_mounted.specs.declared.kept_tree.KeptTree.{KeptTree}
 use Rattle.nv_mounted.specs.declared.listing.Named.{Named}
 use Rattle.nv_mounted.specs.declared.side.Side.{Side}
 use Rattle.nv_mounted.specs.declared.snapshots.Snapshot.{Snapshot}
@@ -50,10 +53,12 @@ number_in snapshot at =
     then Ok (9223372036854775808 + snapshot * 4294967296 + at)
     else refused errno.InputOutput
 
--- a node of a snapshot, with the place behind it in the tree and the nodes from there on
+-- a node of a snapshot with what was kept of it, the place behind it in the tree and the nodes from
+-- there on
 pub record FoundNode : Type 0 where
   pub snapshot : ℕ
   pub node : TreeNode
+  pub kept : Kept
   pub first : ℕ
   pub behind : List TreeNode
 
@@ -62,6 +67,7 @@ abbrev pub plain : Found → FoundNode
 plain found = record {
   snapshot = found.snapshot;
   node = found.node.now;
+  kept = found.kept;
   first = found.first;
   behind = drop found.first found.tree.now;
 }
@@ -70,26 +76,28 @@ abbrev pub plain_result : Result Found Refusal → Result FoundNode Refusal
 plain_result result = result_map_both plain (λ refusal. refusal) result
 
 -- what stands in a tree from a place on begins with a node, or the number is stale
-abbrev pub first_of : ℕ → ℕ → List TreeNode → Result FoundNode Refusal
-first_of snapshot at [] = refused errno.Stale
-first_of snapshot at (node ∷ behind) =
-    Ok (record { snapshot = snapshot; node = node; first = at + 1; behind = behind })
+abbrev pub first_of : ℕ → ℕ → List TreeNode → List Kept → Result FoundNode Refusal
+first_of snapshot at (node ∷ behind) (kept ∷ others) = Ok (
+    record { snapshot = snapshot; node = node; kept = kept; first = at + 1; behind = behind }
+    )
+first_of snapshot at [] kept = refused errno.Stale
+first_of snapshot at (node ∷ behind) [] = refused errno.Stale
 
 -- the node at a place of a tree
-abbrev pub node_at : ℕ → ℕ → List TreeNode → Result FoundNode Refusal
-node_at snapshot at tree = first_of snapshot at (drop at tree)
+abbrev pub node_at : ℕ → ℕ → KeptTree → Result FoundNode Refusal
+node_at snapshot at all = first_of snapshot at (drop at all.tree) (drop at all.kept)
 
--- the nodes of a snapshot, none where it was dropped
-abbrev pub tree_of : Option Snapshot → List TreeNode
-tree_of None = []
-tree_of (Some there) = there.tree
+-- the node at a place of a snapshot, none where it was dropped
+abbrev pub node_of : ℕ → ℕ → Option Snapshot → Result FoundNode Refusal
+node_of snapshot at None = refused errno.Stale
+node_of snapshot at (Some there) = node_at snapshot at there.all
 
 -- the node with a number
 abbrev pub node_in : List (Option Snapshot) → ℕ → Result FoundNode Refusal
 node_in rows number =
     let snapshot = (number - 9223372036854775808) / 4294967296 in
     let at = (number - 9223372036854775808) % 4294967296 in
-    node_at snapshot at (tree_of (slice_index_or rows snapshot None))
+    node_of snapshot at (slice_index_or rows snapshot None)
 
 -- ---- their names
 
@@ -179,27 +187,23 @@ named_snapshots at (row ∷ rows) = listed_snapshot at row (named_snapshots (at 
 
 -- ---- what is asked of them: all but making and dropping them asks the world nothing
 
--- times and owners of all that snapshots have are those of the root
-abbrev pub snapshots_kept : Side → Kept
-snapshots_kept side = (at_node side root).kept
-
--- the directory of snapshots has the mode 755
+-- the directory of snapshots has the mode 755, and the root's times and owner
 abbrev pub snapshots_attributes : Side → Result Attributes Refusal
 snapshots_attributes side =
     let shape : Shape = record { kind = kinds.Dir; mode = 493; size = 0 } in
-    attributes_if snapshots_node shape (snapshots_kept side) false
+    attributes_if snapshots_node shape (at_node side root).kept false
 
--- kind, mode and size of a node are those that it had when the snapshot was made
-abbrev pub attributes_in : ℕ → Kept → FoundNode → Result Attributes Refusal
-attributes_in number kept found =
+-- a node has what it had when the snapshot was made, except that no mode sets another user or group
+abbrev pub attributes_in : ℕ → FoundNode → Result Attributes Refusal
+attributes_in number found =
     let node = found.node.node in
     let shape : Shape = record { kind = node.kind; mode = node.mode; size = node.size } in
-    attributes_if number shape kept false
+    attributes_if number (shape_in_snapshot shape) found.kept false
 
 abbrev pub snapshot_attributes : Side → ℕ → Result Attributes Refusal
 snapshot_attributes side number =
     if number == snapshots_node then snapshots_attributes side
-    else and_then (node_in side.snapshots number) (attributes_in number (snapshots_kept side))
+    else and_then (node_in side.snapshots number) (attributes_in number)
 
 -- the number of the snapshot, or of the node of one, with a name
 abbrev pub snapshot_child : Side → ℕ → List ℕ → Result ℕ Refusal
@@ -235,18 +239,24 @@ snapshot_read side number offset size =
     and_then (node_in side.snapshots number) (λ found.
     Ok (outcomes.Contents (contents_in found offset size)))
 
--- the names of the snapshots, or of a directory of one
-abbrev pub snapshot_names : Side → ℕ → Result (List Named) Refusal
-snapshot_names side number =
-    if number == snapshots_node then named_snapshots 0 side.snapshots
-    else and_then (node_in side.snapshots number) (λ found.
-    named_children found.snapshot (children found))
-
--- list names from an offset on
+-- list names of a directory of a snapshot from an offset on
 abbrev pub snapshot_read_directory : Side → ℕ → ℕ → ℕ → Result Outcome Refusal
 snapshot_read_directory side number offset room =
-    and_then (snapshot_names side number) (λ names.
-    Ok (outcomes.Contents (listed_from offset room names)))
+    and_then (node_in side.snapshots number) (λ found.
+    and_then (named_children found.snapshot (children found)) (λ names.
+    Ok (outcomes.Contents (listed_from offset room names))))
+
+-- the names of the snapshots, for which the world is not asked
+abbrev pub ask_snapshots : Side → Dialogue (List Named)
+ask_snapshots side = Grows (Ends (named_snapshots 0 side.snapshots))
+
+-- list snapshots from an offset on, as names of an open directory
+abbrev pub list_snapshots : Side → ℕ → ℕ → ℕ → Dialogue (Outcome × Side)
+list_snapshots side file offset room = list_anew side (ask_snapshots side) file offset room
+
+abbrev pub read_snapshots : Side → ℕ → ℕ → ℕ → Dialogue (Outcome × Side)
+read_snapshots side file offset room =
+    list_open side (ask_snapshots side) file room offset (open_under file side.directories)
 
 -- ---- how they are made and dropped
 
@@ -256,51 +266,36 @@ snapshot_told (Ok (answers.Snapshot epoch)) = Ok epoch
 snapshot_told (Ok other) = other_kind
 snapshot_told (Err fault) = faulted fault
 
--- the tree of a snapshot
-abbrev pub tree_told : Result Answer Fault → Result (List TreeNode) Refusal
-tree_told (Ok (answers.Tree tree)) = Ok tree
-tree_told (Ok other) = other_kind
-tree_told (Err fault) = faulted fault
-
 abbrev pub ask_snapshot : Dialogue ℕ
 ask_snapshot = ask (calls.SnapshotOrCleaner snapshot_calls.Snap) snapshot_told
 
 abbrev pub drop_epoch : ℕ → Dialogue (Unit {0})
 drop_epoch epoch = ask_done (calls.SnapshotOrCleaner (snapshot_calls.Drop epoch))
 
--- a tree that was told; where it was not, the snapshot is dropped
-abbrev pub tree_or_drop : ℕ → Result (List TreeNode) Refusal → Dialogue (List TreeNode)
-tree_or_drop epoch (Ok tree) = Ends (Ok tree)
-tree_or_drop epoch (Err refusal) = drop_epoch epoch >>= λ done. Ends (Err refusal)
-
-abbrev pub ask_tree : ℕ → Dialogue (List TreeNode)
-ask_tree epoch =
-    Asks (calls.SnapshotOrCleaner (snapshot_calls.Show epoch)) (λ answer.
-    tree_or_drop epoch (tree_told answer))
-
 -- one more snapshot has a name, behind all others
-abbrev pub with_snapshot : List ℕ → ℕ → List TreeNode → List (Option Snapshot)
+abbrev pub with_snapshot : List ℕ → ℕ → KeptTree → List (Option Snapshot)
     → List (Option Snapshot)
-with_snapshot name epoch tree rows =
-    rows ++ Some (record { name = name; epoch = epoch; tree = tree }) ∷ []
+with_snapshot name epoch all rows =
+    rows ++ Some (record { name = name; epoch = epoch; all = all }) ∷ []
 
--- A snapshot is made under a name that none has: the world makes it, and its tree is read. Told are
--- the attributes of its root, with these times and owners.
-abbrev pub making : List (Option Snapshot) → Kept → List ℕ
+-- A snapshot is made under a name that none has: the world makes it, its tree is read, and owners and
+-- times of its nodes are kept. Where that is refused it is dropped again. Told are the attributes of
+-- its root.
+abbrev pub making : List (Option Snapshot) → AllBeside → List ℕ
     → Dialogue (Attributes × List (Option Snapshot))
-making rows kept file =
+making rows nodes file =
     if is_ok (place_named file rows) then Ends (refused errno.Exists)
     else Grows (Ends (checked_name file)) >>= λ name.
     Ends (number_in (length rows) 0) >>= λ number.
     Grows ask_snapshot >>= λ epoch.
-    ask_tree epoch >>= λ tree.
-    Ends (and_then (node_at (length rows) 0 tree) (attributes_in number kept)) >>= λ attributes.
-    Ends (Ok (attributes, with_snapshot name epoch tree rows))
+    undoing (drop_epoch epoch) (ask_kept_tree nodes epoch) >>= λ all.
+    Ends (and_then (node_at (length rows) 0 all) (attributes_in number)) >>= λ attributes.
+    Ends (Ok (attributes, with_snapshot name epoch all rows))
 
 -- make a snapshot
 abbrev pub make_snapshot : Side → List ℕ → Dialogue (Outcome × Side)
 make_snapshot side name =
-    making side.snapshots (snapshots_kept side) name >>= λ made.
+    making side.snapshots side.nodes name >>= λ made.
     Ends (Ok (outcomes.Found (entry_of made.0), record side { snapshots = made.1 }))
 
 -- what no snapshot holds any more is released; whether it is matters to no answer

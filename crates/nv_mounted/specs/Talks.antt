@@ -8,7 +8,7 @@ use Rattle.nv_mount_answers.specs.declared.kept.Shape.{Shape}
 use Rattle.nv_mount_answers.specs.declared.kept.Time.{Time}
 use Rattle.nv_mount_beside.specs.Shown.{attributes_if, entry_of, opened_file}
 use Rattle.nv_mounted.specs.Asks.{ask_done, ask_handle, ask_shape}
-use Rattle.nv_mount_beside.specs.Beside.{named, opened, released}
+use Rattle.nv_mount_beside.specs.Beside.{named, opened, released, renamed}
 use Rattle.nv_mounted.specs.Dialogues.{Dialogue, Ends, Grows, ◌>>=◌}
 use Rattle.nv_mount_beside.specs.Names.{checked_name, free_name, hidden_name, node_named, number_of}
 use Rattle.nv_mounted.specs.Side.{at_node, put_node, touched}
@@ -111,17 +111,22 @@ hidden_if (Err refusal) = Err refusal
 abbrev pub hidden_name_for : Handle → Result (List ℕ) Refusal
 hidden_name_for handle = hidden_if (number_of handle)
 
+-- a file that has gone among the hidden ones at a time
+abbrev pub hidden_now : Time → Handle → Side → Side
+hidden_now now handle side = put_node handle (renamed now (named false (at_node side handle))) side
+
 -- an open file moves among the hidden ones, under its number
-abbrev pub hide : Side → Handle → List ℕ → Handle → Dialogue (Unit {0} × Side)
-hide side dir name handle =
+abbrev pub hide : Side → Time → Handle → List ℕ → Handle → Dialogue (Unit {0} × Side)
+hide side now dir name handle =
     Grows (Ends (hidden_name_for handle)) >>= λ new.
     ask_done (calls.Rename dir name side.hidden new) >>= λ done.
-    Ends (Ok (tt, put_node handle (named false (at_node side handle)) side))
+    Ends (Ok (tt, hidden_now now handle side))
 
 -- an open file is hidden, and any other node's name is taken away
-abbrev pub take_away : Side → Handle → List ℕ → Handle → Shape → Dialogue (Unit {0} × Side)
-take_away side dir name handle shape =
-    if is_open_file side handle shape then hide side dir name handle
+abbrev pub take_away : Side → Time → Handle → List ℕ → Handle → Shape
+    → Dialogue (Unit {0} × Side)
+take_away side now dir name handle shape =
+    if is_open_file side handle shape then hide side now dir name handle
     else ask_done (calls.Unlink dir name) >>= λ done. Ends (Ok (tt, side))
 
 -- take a file's name away: an open file is hidden, any other goes
@@ -131,7 +136,7 @@ unlink side now number file =
     Grows (Ends (free_name dir file)) >>= λ name.
     ask_handle (calls.Lookup dir name) >>= λ handle.
     ask_shape handle >>= λ shape.
-    take_away side dir name handle shape >>= λ gone.
+    take_away side now dir name handle shape >>= λ gone.
     Ends (Ok (outcomes.Done, touched now dir gone.1))
 
 -- take the name of an empty directory away

@@ -160,7 +160,12 @@ pub(crate) fn listed_kind(kind: Kind) -> ListedKind
 }
 
 /// The names from an offset on, as a request is answered.
-fn contents(alloc: Global, names: &[Named], offset: u64, room: u32) -> Result<Outcome, Refusal>
+pub(crate) fn contents(
+    alloc: Global,
+    names: &[Named],
+    offset: u64,
+    room: u32,
+) -> Result<Outcome, Refusal>
     // As many are listed as there is room for.
     ensures { IsOrNoMemory result (Ok (Outcome.Contents (listed_from offset room names.now))) }
 {
@@ -238,7 +243,7 @@ impl<C: Core> Mount<C> {
         room: u32,
     ) -> Result<Outcome, Refusal>
         // The names are kept where they are listed.
-        ensures { Does C.Tells (list_anew self.old.side dir.now file offset room)
+        ensures { Does C.Tells (list_anew self.old.side (ask_listing dir.now) file offset room)
             self.old.core self.old.side result self.new.core self.new.side }
     {
         let names = self.names(dir)?;

@@ -23,9 +23,9 @@ const MOST_READ: u64 = 16_777_216;
 /// The mode of `fallocate` that leaves the size.
 const KEEP_SIZE: u32 = 1;
 
-/// What is told of a room. No count of inodes is kept.
+/// What is told of a room.
 fn space(room: Room) -> Statistics
-    // Blocks are those of the world, and all that are free are for all users.
+    // Blocks and inodes are those of the world, and all that are free are for all users.
     ensures { result ≡ space_of room }
 {
     let block_size = room.block.min(u64::from(u32::MAX)) as u32;
@@ -33,8 +33,8 @@ fn space(room: Room) -> Statistics
         blocks: room.blocks,
         free_blocks: room.free,
         available_blocks: room.free,
-        inodes: 0,
-        free_inodes: 0,
+        inodes: room.inodes,
+        free_inodes: room.free_inodes,
         block_size,
         name_length: NAME as u32,
         fragment_size: block_size,

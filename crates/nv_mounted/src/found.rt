@@ -6,12 +6,13 @@ ghost use Rattle.nv_mounted.specs.Snapshots.{attributes_in, child_named, childre
 ghost use Rattle.nv_mounted.specs.Snapshots.{named_children, node_at, number_in, plain, plain_result};
 
 use crate::directories::listed_kind;
+use crate::kept_tree::KeptTree;
 use crate::listing::{Listing, Named};
 use nv_base::Bytes;
 use nv_entry::TreeNode;
 use nv_fuse::{Attributes, Errno};
 use nv_mount_answers::{Kept, Shape};
-use nv_mount_beside::{FIRST, HIDDEN, Refusal, attributes};
+use nv_mount_beside::{FIRST, HIDDEN, Refusal, attributes, shape_in_snapshot};
 use std::alloc::Global;
 
 /// The number of the directory of snapshots, which no node has.
@@ -49,6 +50,8 @@ pub struct Found<'a> {
     pub snapshot: u64,
     /// The node.
     pub node: &'a TreeNode,
+    /// Its owner and times.
+    pub kept: Kept,
     /// The place behind it in the tree.
     pub first: usize,
     /// The tree.
@@ -56,16 +59,18 @@ pub struct Found<'a> {
 }
 
 /// The node at a place of a tree.
-pub(crate) fn found_at(snapshot: u64, at: usize, tree: &[TreeNode]) -> Result<Found<'_>, Refusal>
+pub(crate) fn found_at(snapshot: u64, at: usize, all: &KeptTree) -> Result<Found<'_>, Refusal>
     // A place behind the tree's end has none.
-    ensures { plain_result result ≡ node_at snapshot at tree.now }
+    ensures { plain_result result ≡ node_at snapshot at all.now }
 {
-    if at >= tree.len() {
+    let (tree, kept) = (all.tree.as_slice(), all.kept.as_slice());
+    if at >= tree.len() || at >= kept.len() {
         return Err(Refusal::Errno(Errno::Stale));
     }
     Ok(Found {
         snapshot,
         node: &tree[at],
+        kept: kept[at],
         first: at + 1,
         tree,
     })
@@ -151,10 +156,10 @@ impl Found<'_> {
         Ok(Bytes::from_vec(rest[..count].to_vec(alloc)?))
     }
 
-    /// Its attributes, with these times and owners.
-    pub(crate) fn attributes(&self, number: u64, kept: Kept) -> Result<Attributes, Refusal>
-        // Kind, mode and size are those that it had when the snapshot was made.
-        ensures { result ≡ attributes_in number kept (plain self.now) }
+    /// Its attributes.
+    pub(crate) fn attributes(&self, number: u64) -> Result<Attributes, Refusal>
+        // They are those that it had when the snapshot was made, without set-user-id and set-group-id.
+        ensures { result ≡ attributes_in number (plain self.now) }
     {
         let node = &self.node.node;
         let shape = Shape {
@@ -162,6 +167,6 @@ impl Found<'_> {
             mode: node.mode,
             size: node.size,
         };
-        attributes(number, shape, kept, false)
+        attributes(number, shape_in_snapshot(shape), self.kept, false)
     }
 }

@@ -4,7 +4,7 @@ ghost use Rattle.std.specs.Prelude.{◌≡◌};
 ghost use Rattle.nv_mount_beside.specs.Memory.{IsOrNoMemory};
 ghost use Rattle.nv_mounted.specs.Dialogues.{IsHad};
 ghost use Rattle.nv_mounted.specs.Side.{Does};
-ghost use Rattle.nv_mounted.specs.Talks.{goes, hide, hidden_name_for, is_open_file, is_unopened, let_go, release, release_file};
+ghost use Rattle.nv_mounted.specs.Talks.{goes, hidden_name_for, hidden_now, hide, is_open_file, is_unopened, let_go, release, release_file};
 ghost use Rattle.nv_mounted.specs.Talks.{release_opened, rmdir, take_away, touched_if, unlink};
 
 use crate::asks::{ask_done, ask_handle, ask_shape, lookup, rename, rmdir, unlink};
@@ -36,6 +36,15 @@ fn touch_if(side: &mut Side, gone: bool, now: Time)
     }
 }
 
+/// A file that has gone among the hidden ones has no name.
+pub(crate) fn hide_now(side: &mut Side, now: Time, handle: &Handle)
+    // Only what stands beside it changes: its name, and the time of its attributes.
+    ensures { side.new ≡ hidden_now now handle.now side.old }
+{
+    let beside = side.at(handle).named(false).renamed(now);
+    side.put(handle, beside);
+}
+
 /// The name of a file among the hidden ones.
 pub(crate) fn hidden_name_for(alloc: Global, handle: &Handle) -> Result<Bytes, Refusal>
     // It is the number of the node in decimal.
@@ -56,7 +65,7 @@ impl<C: Core> Mount<C> {
         let old = name(self.alloc, &dir, file)?;
         let handle = ask_handle(&mut self.core, lookup(&dir, looked))?;
         let shape = ask_shape(&mut self.core, &handle)?;
-        self.take_away(&dir, old, &handle, shape)?;
+        self.take_away(now, &dir, old, &handle, shape)?;
         self.side.touch(now, &dir);
         Ok(Outcome::Done)
     }
@@ -64,17 +73,18 @@ impl<C: Core> Mount<C> {
     /// Takes the name of a node away, or hides it.
     fn take_away(
         &mut self,
+        now: Time,
         dir: &Handle,
         name: Bytes,
         handle: &Handle,
         shape: Shape,
     ) -> Result<(), Refusal>
         // An open file is hidden, and any other goes.
-        ensures { Does C.Tells (take_away self.old.side dir.now name handle.now shape) self.old.core
-            self.old.side result self.new.core self.new.side }
+        ensures { Does C.Tells (take_away self.old.side now dir.now name handle.now shape)
+            self.old.core self.old.side result self.new.core self.new.side }
     {
         if is_open_file(&self.side, handle, shape) {
-            return self.hide(dir, name, handle);
+            return self.hide(now, dir, name, handle);
         }
         ask_done(&mut self.core, unlink(dir, name))
     }
@@ -93,15 +103,20 @@ impl<C: Core> Mount<C> {
     }
 
     /// Moves an open file among the hidden ones.
-    pub(crate) fn hide(&mut self, from: &Handle, old: Bytes, handle: &Handle) -> Result<(), Refusal>
+    pub(crate) fn hide(
+        &mut self,
+        now: Time,
+        from: &Handle,
+        old: Bytes,
+        handle: &Handle,
+    ) -> Result<(), Refusal>
         // It stands there under its number, and has no name from then on.
-        ensures { Does C.Tells (hide self.old.side from.now old handle.now)
+        ensures { Does C.Tells (hide self.old.side now from.now old handle.now)
             self.old.core self.old.side result self.new.core self.new.side }
     {
         let new = hidden_name_for(self.alloc, handle)?;
         ask_done(&mut self.core, rename(from, old, &self.side.hidden, new))?;
-        let beside = self.side.at(handle).named(false);
-        self.side.put(handle, beside);
+        hide_now(&mut self.side, now, handle);
         Ok(())
     }
 

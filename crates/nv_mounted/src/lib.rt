@@ -12,6 +12,7 @@ mod entries;
 mod files;
 mod found;
 mod hidden;
+mod kept_tree;
 mod listing;
 mod make;
 mod mount;

@@ -1,17 +1,20 @@
 //! New files and directories.
 
 ghost use Rattle.std.specs.Prelude.{◌≡◌};
-ghost use Rattle.nv_mounted.specs.Makings.{create, made_beside, make, making, mkdir, mknod, permissions};
+ghost use Rattle.nv_mounted.specs.Makings.{create, made_beside, make, make_owned, making, mkdir, mknod, owner_made, permissions};
 ghost use Rattle.nv_mounted.specs.Side.{Does};
 
-use crate::asks::ask_handle;
+use crate::asks::{ask_handle, ask_shape};
 use crate::mount::Mount;
+use crate::side::Side;
 use crate::world::Core;
 use nv_base::{Bytes, Handle, Kind, Mode};
 use nv_calls::Call;
 use nv_fuse::{Attributes, Errno, Header};
 use nv_mount_answers::{Shape, Time, attributes_of};
-use nv_mount_beside::{Beside, Outcome, Refusal, entry, name, node, number, opened_file};
+use nv_mount_beside::{
+    Beside, Outcome, Owner, Refusal, entry, mode_in, name, node, number, opened_file, owner_in,
+};
 
 /// The bits of a mode that tell what is made, and those of a file.
 const KIND: u32 = 0o170_000;
@@ -49,16 +52,25 @@ fn making(kind: Kind, dir: &Handle, name: Bytes, mode: Mode) -> Call
 }
 
 /// What stands beside a new node.
-fn made_beside(now: Time, header: &Header, opens: bool, handle: &Handle) -> Beside
-    // It belongs to who asks, and is open once where the request opens it.
-    ensures { result ≡ made_beside now header.now opens handle.now }
+fn made_beside(now: Time, owner: Owner, opens: bool, handle: &Handle) -> Beside
+    // It belongs to its owner, and is open once where the request opens it.
+    ensures { result ≡ made_beside now owner opens handle.now }
 {
-    let new = Beside::new(handle.generation.number(), now, header.user, header.group);
+    let new = Beside::new(handle.generation.number(), now, owner.user, owner.group);
     if opens { new.opened() } else { new }
 }
 
+/// Whom a node belongs to that a request makes in a directory of this mode.
+fn owner_made(side: &Side, dir: &Handle, dir_mode: Mode, header: &Header) -> Owner
+    // Its user is who asks, and its group may be the directory's.
+    ensures { result ≡ owner_made side.now dir.now dir_mode header.now }
+{
+    let group = side.at(dir).kept.group;
+    owner_in(dir_mode, group, header.user, header.group)
+}
+
 impl<C: Core> Mount<C> {
-    /// Makes a file or a directory, which belongs to who asks.
+    /// Makes a file or a directory, which belongs to who asks, or to the group of its directory.
     fn make(
         &mut self,
         now: Time,
@@ -68,18 +80,40 @@ impl<C: Core> Mount<C> {
         file: &[u8],
         opens: bool,
     ) -> Result<Attributes, Refusal>
-        // The world makes it, and its directory has changed.
+        // A stat tells the mode of its directory, which may pass group and bit on.
         ensures { Does C.Tells (make self.old.side now header.now kind mode file.now opens)
             self.old.core self.old.side result self.new.core self.new.side }
     {
         let dir = node(header.node)?;
-        let name = name(self.alloc, &dir, file)?;
+        let parent = ask_shape(&mut self.core, &dir)?;
+        let owner = owner_made(&self.side, &dir, parent.mode, header);
+        let mode = mode_in(parent.mode, kind, mode);
+        self.make_owned(now, &dir, owner, kind, mode, file, opens)
+    }
+
+    /// Makes a file or a directory of this mode that belongs to this owner.
+    fn make_owned(
+        &mut self,
+        now: Time,
+        dir: &Handle,
+        owner: Owner,
+        kind: Kind,
+        mode: u32,
+        file: &[u8],
+        opens: bool,
+    ) -> Result<Attributes, Refusal>
+        // The world makes it, and its directory has changed.
+        ensures { Does C.Tells
+            (make_owned self.old.side now dir.now owner kind mode file.now opens)
+            self.old.core self.old.side result self.new.core self.new.side }
+    {
+        let name = name(self.alloc, dir, file)?;
         let mode = permissions(mode)?;
-        let handle = ask_handle(&mut self.core, making(kind, &dir, name, mode))?;
+        let handle = ask_handle(&mut self.core, making(kind, dir, name, mode))?;
         let number = number(&handle)?;
-        let beside = made_beside(now, header, opens, &handle);
+        let beside = made_beside(now, owner, opens, &handle);
         self.side.put(&handle, beside);
-        self.side.touch(now, &dir);
+        self.side.touch(now, dir);
         let size = 0;
         Ok(attributes_of(number, Shape { kind, mode, size }, beside.kept))
     }

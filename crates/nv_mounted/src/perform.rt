@@ -155,11 +155,19 @@ impl<C: Core> Mount<C> {
             Operation::Flush { .. } => Ok(Outcome::Done),
             Operation::Fsync { .. } => Ok(Outcome::Done),
             Operation::Release { .. } => Ok(Outcome::Done),
+            Operation::OpenDirectory { .. } if number == SNAPSHOTS_NODE => self.open_snapshots(),
             Operation::OpenDirectory { .. } => self.snapshot_open(number),
+            Operation::ReadDirectory { file, offset, size } if number == SNAPSHOTS_NODE => {
+                self.read_snapshots(file, offset, size)
+            }
             Operation::ReadDirectory { offset, size, .. } => {
                 self.snapshot_read_directory(number, offset, size)
             }
             Operation::FsyncDirectory { .. } => Ok(Outcome::Done),
+            Operation::ReleaseDirectory { file, .. } if number == SNAPSHOTS_NODE => {
+                self.side.directories.close(file);
+                Ok(Outcome::Done)
+            }
             Operation::ReleaseDirectory { .. } => Ok(Outcome::Done),
             Operation::Malformed => Err(Refusal::Errno(Errno::Invalid)),
             Operation::Other => Err(Refusal::Errno(Errno::NotImplemented)),

@@ -5,11 +5,11 @@ ghost use Rattle.nv_calls.specs.Plain.{same_handle};
 ghost use Rattle.nv_mount_beside.specs.Memory.{no_memory};
 ghost use Rattle.nv_mounted.specs.Asks.{ask};
 ghost use Rattle.nv_mounted.specs.Dialogues.{IsHad};
-ghost use Rattle.nv_mounted.specs.Renames.{ask_way, both_touched, hidden_now, leaves_directory, move_freely, move_name, move_or_take_back, move_over_directory, move_over_open, moved_by, moves_over, rename, replace_directory, replace_open, taken_back, there_told, way_over, way_past};
+ghost use Rattle.nv_mounted.specs.Renames.{all_touched, ask_way, both_touched, leaves_directory, move_freely, move_name, move_or_take_back, move_over_directory, move_over_open, moved_by, moved_now, moves_over, rename, replace_directory, replace_open, taken_back, there_told, way_over, way_past};
 ghost use Rattle.nv_mounted.specs.Side.{Does};
 
 use crate::asks::{ask_done, ask_handle, ask_shape, copy_of, lookup, rename, rmdir};
-use crate::hidden::hidden_name_for;
+use crate::hidden::{hidden_name_for, hide_now};
 use crate::mount::Mount;
 use crate::side::Side;
 use crate::world::Core;
@@ -74,29 +74,27 @@ fn leaves_directory(kind: Kind, from: &Handle, to: &Handle) -> bool
     kind == Kind::Dir && !is_same(from, to)
 }
 
-/// What stands in the way of a rename, or why there is none.
+/// What stands in the way of a node that moves, or why there is none.
 fn ask_way<C: Core>(
     core: &mut C,
     side: &Side,
+    moved: &Handle,
     from: &Handle,
-    old: Bytes,
     to: &Handle,
     new: Bytes,
     flags: u32,
 ) -> Result<Way, Refusal>
-    // Look-ups tell both nodes, and no directory moves to another one.
-    ensures { IsHad C.Tells (ask_way side.now from.now old to.now new flags)
+    // A look-up tells the other node, and no directory moves to another one.
+    ensures { IsHad C.Tells (ask_way side.now moved.now from.now to.now new flags)
         core.old result core.new }
 {
-    let find_old = lookup(from, old);
     let find_new = lookup(to, new);
-    let moved = ask_handle(core, find_old)?;
-    let shape = ask_shape(core, &moved)?;
+    let shape = ask_shape(core, moved)?;
     if leaves_directory(shape.kind, from, to) {
         return Err(Refusal::Errno(Errno::CrossDevice));
     }
     let there = ask_there(core, find_new)?;
-    way_past(core, side, &moved, shape.kind, flags, there)
+    way_past(core, side, moved, shape.kind, flags, there)
 }
 
 /// What stands in the way, by who stands at the new name.
@@ -203,13 +201,22 @@ fn moves_over(
     Ok(Moves { away, over, back })
 }
 
-/// A file that stands among the hidden ones has no name.
-fn hide_now(side: &mut Side, there: &Handle)
-    // Only what stands beside it changes.
-    ensures { side.new ≡ hidden_now side.old there.now }
+/// A node has moved.
+fn move_now(side: &mut Side, now: Time, moved: &Handle)
+    // Only the time of its attributes changes.
+    ensures { side.new ≡ moved_now now moved.now side.old }
 {
-    let beside = side.at(there).named(false);
-    side.put(there, beside);
+    let beside = side.at(moved).renamed(now);
+    side.put(moved, beside);
+}
+
+/// Both directories of a rename have changed, and the node that moved.
+fn touch_all(side: &mut Side, now: Time, moved: &Handle, from: &Handle, to: &Handle)
+    // The node comes last.
+    ensures { side.new ≡ all_touched now moved.now from.now to.now side.old }
+{
+    touch_both(side, now, from, to);
+    move_now(side, now, moved);
 }
 
 /// Both directories of a rename have changed.
@@ -243,22 +250,17 @@ impl<C: Core> Mount<C> {
         }
         let old_name = name(self.alloc, &from, old)?;
         let new_name = name(self.alloc, &to, new)?;
-        let way = ask_way(
-            &mut self.core,
-            &self.side,
-            &from,
-            old_name,
-            &to,
-            new_name,
-            flags,
-        )?;
-        self.move_by(now, &from, old, &to, new, way)
+        let moved = ask_handle(&mut self.core, lookup(&from, old_name))?;
+        let (core, side) = (&mut self.core, &self.side);
+        let way = ask_way(core, side, &moved, &from, &to, new_name, flags)?;
+        self.move_by(now, &moved, &from, old, &to, new, way)
     }
 
     /// Makes the move on a way.
     fn move_by(
         &mut self,
         now: Time,
+        moved: &Handle,
         from: &Handle,
         old: &[u8],
         to: &Handle,
@@ -266,14 +268,15 @@ impl<C: Core> Mount<C> {
         way: Way,
     ) -> Result<Outcome, Refusal>
         // Where both names are of one node, nothing is done.
-        ensures { Does C.Tells (moved_by self.old.side now from.now old.now to.now new.now way)
+        ensures { Does C.Tells
+            (moved_by self.old.side now moved.now from.now old.now to.now new.now way)
             self.old.core self.old.side result self.new.core self.new.side }
     {
         match way {
             Way::Same => Ok(Outcome::Done),
-            Way::Free => self.move_freely(now, from, old, to, new),
-            Way::Directory => self.replace_directory(now, from, old, to, new),
-            Way::Open(there) => self.replace_open(now, from, old, to, new, &there),
+            Way::Free => self.move_freely(now, moved, from, old, to, new),
+            Way::Directory => self.replace_directory(now, moved, from, old, to, new),
+            Way::Open(there) => self.replace_open(now, moved, from, old, to, new, &there),
         }
     }
 
@@ -281,17 +284,19 @@ impl<C: Core> Mount<C> {
     fn move_freely(
         &mut self,
         now: Time,
+        moved: &Handle,
         from: &Handle,
         old: &[u8],
         to: &Handle,
         new: &[u8],
     ) -> Result<Outcome, Refusal>
-        // Once it was moved both directories have changed.
-        ensures { Does C.Tells (move_freely self.old.side now from.now old.now to.now new.now)
+        // Once it was moved it and both directories have changed.
+        ensures { Does C.Tells
+            (move_freely self.old.side now moved.now from.now old.now to.now new.now)
             self.old.core self.old.side result self.new.core self.new.side }
     {
         move_name(self.alloc, &mut self.core, from, old, to, new)?;
-        touch_both(&mut self.side, now, from, to);
+        touch_all(&mut self.side, now, moved, from, to);
         Ok(Outcome::Done)
     }
 
@@ -299,18 +304,19 @@ impl<C: Core> Mount<C> {
     fn replace_directory(
         &mut self,
         now: Time,
+        moved: &Handle,
         from: &Handle,
         old: &[u8],
         to: &Handle,
         new: &[u8],
     ) -> Result<Outcome, Refusal>
-        // Once it was moved both directories have changed.
+        // Once it was moved it and both directories have changed.
         ensures { Does C.Tells
-            (replace_directory self.old.side now from.now old.now to.now new.now)
+            (replace_directory self.old.side now moved.now from.now old.now to.now new.now)
             self.old.core self.old.side result self.new.core self.new.side }
     {
         move_over_directory(self.alloc, &mut self.core, from, old, to, new)?;
-        touch_both(&mut self.side, now, from, to);
+        touch_all(&mut self.side, now, moved, from, to);
         Ok(Outcome::Done)
     }
 
@@ -318,6 +324,7 @@ impl<C: Core> Mount<C> {
     fn replace_open(
         &mut self,
         now: Time,
+        moved: &Handle,
         from: &Handle,
         old: &[u8],
         to: &Handle,
@@ -326,12 +333,12 @@ impl<C: Core> Mount<C> {
     ) -> Result<Outcome, Refusal>
         // Both directories have changed then, also where the open file stays hidden.
         ensures { Does C.Tells
-            (replace_open self.old.side now from.now old.now to.now new.now there.now)
+            (replace_open self.old.side now moved.now from.now old.now to.now new.now there.now)
             self.old.core self.old.side result self.new.core self.new.side }
     {
-        let moved = self.move_over_open(from, old, to, new, there)?;
+        let done = self.move_over_open(now, moved, from, old, to, new, there)?;
         touch_both(&mut self.side, now, from, to);
-        Ok(moved)
+        Ok(done)
     }
 
     /// Moves a file over an open one, which goes among the hidden ones first. Where the second move is refused, the
@@ -339,6 +346,8 @@ impl<C: Core> Mount<C> {
     /// and no refusal.
     fn move_over_open(
         &mut self,
+        now: Time,
+        moved: &Handle,
         from: &Handle,
         old: &[u8],
         to: &Handle,
@@ -347,45 +356,56 @@ impl<C: Core> Mount<C> {
     ) -> Result<Outcome, Refusal>
         // A file that stays among the hidden ones has no name from then on.
         ensures { Does C.Tells
-            (move_over_open self.old.side from.now old.now to.now new.now there.now)
+            (move_over_open self.old.side now moved.now from.now old.now to.now new.now
+            there.now)
             self.old.core self.old.side result self.new.core self.new.side }
     {
         let hidden = hidden_name_for(self.alloc, there)?;
         let moves = moves_over(self.alloc, &self.side.hidden, hidden, from, old, to, new)?;
         ask_done(&mut self.core, moves.away)?;
-        self.move_or_take_back(moves.over, moves.back, there)
+        self.move_or_take_back(now, moved, moves.over, moves.back, there)
     }
 
     /// Makes the second move.
     fn move_or_take_back(
         &mut self,
+        now: Time,
+        moved: &Handle,
         over: Call,
         back: Call,
         there: &Handle,
     ) -> Result<Outcome, Refusal>
         // Where it is refused, the first is taken back.
-        ensures { Does C.Tells (move_or_take_back self.old.side there.now over back)
+        ensures { Does C.Tells
+            (move_or_take_back self.old.side now moved.now there.now over back)
             self.old.core self.old.side result self.new.core self.new.side }
     {
         match self.core.call(over) {
             Ok(_) => {
-                hide_now(&mut self.side, there);
+                hide_now(&mut self.side, now, there);
+                move_now(&mut self.side, now, moved);
                 Ok(Outcome::Done)
             }
-            Err(fault) => self.take_back(back, there, fault),
+            Err(fault) => self.take_back(now, back, there, fault),
         }
     }
 
     /// Takes the first move back, since the second was refused.
-    fn take_back(&mut self, back: Call, there: &Handle, fault: Fault) -> Result<Outcome, Refusal>
+    fn take_back(
+        &mut self,
+        now: Time,
+        back: Call,
+        there: &Handle,
+        fault: Fault,
+    ) -> Result<Outcome, Refusal>
         // The file is back, or it stays hidden.
-        ensures { Does C.Tells (taken_back self.old.side there.now back fault)
+        ensures { Does C.Tells (taken_back self.old.side now there.now back fault)
             self.old.core self.old.side result self.new.core self.new.side }
     {
         match self.core.call(back) {
             Ok(_) => Err(Refusal::Fault(fault)),
             Err(_) => {
-                hide_now(&mut self.side, there);
+                hide_now(&mut self.side, now, there);
                 Ok(Outcome::Refused(Refusal::Fault(fault).errno()))
             }
         }

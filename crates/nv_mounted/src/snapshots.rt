@@ -2,30 +2,31 @@
 
 ghost use Rattle.std.specs.Prelude.{◌≡◌, [], Err, None, OnErr, is_ok, length, slice_index_or, slice_set};
 ghost use Rattle.nv_mount_beside.specs.Memory.{IsOrNoMemory};
-ghost use Rattle.nv_mounted.specs.Dialogues.{IsHad};
+ghost use Rattle.nv_mounted.specs.Dialogues.{IsHad, undo, undoing};
+ghost use Rattle.nv_mounted.specs.KeptTrees.{ask_kept_tree};
 ghost use Rattle.nv_mounted.specs.Side.{with_side};
-ghost use Rattle.nv_mounted.specs.Snapshots.{ask_snapshot, ask_tree, drop_epoch, epoch_of, has_name, making, named_snapshots};
-ghost use Rattle.nv_mounted.specs.Snapshots.{node_in, place_named, plain_result, tree_or_drop, tree_told};
+ghost use Rattle.nv_mounted.specs.Snapshots.{ask_snapshot, drop_epoch, epoch_of, has_name, making, named_snapshots};
+ghost use Rattle.nv_mounted.specs.Snapshots.{node_in, place_named, plain_result};
 
 use crate::asks::ask_done;
 use crate::found::{Found, NODES, found_at, number_in};
+use crate::kept_tree::{KeptTree, ask_kept_tree};
 use crate::listing::{Listing, Named};
 use crate::world::Core;
-use nv_base::{Bytes, Epoch, Fault};
+use nv_base::{Bytes, Epoch};
 use nv_calls::{Answer, Call, SnapshotOrCleanerCall};
-use nv_entry::Tree;
 use nv_fuse::{Attributes, Errno, ListedKind};
-use nv_mount_answers::Kept;
-use nv_mount_beside::{FIRST, Refusal, copied};
+use nv_mount_beside::{FIRST, Nodes, Refusal, copied};
 use std::alloc::Global;
 use std::marker::Model;
 
-/// A snapshot with its name, and its tree as it was read when it was made.
+/// A snapshot with its name.
 #[derive(Debug, Drop)]
 pub struct Snapshot {
     pub name: Bytes,
     pub epoch: Epoch,
-    pub tree: Tree,
+    /// Its nodes as they stood when it was made.
+    pub all: KeptTree,
 }
 
 /// The snapshots that have a name, by the order in which they were made, and where one was dropped nothing.
@@ -122,7 +123,7 @@ impl Snapshots {
         let (snapshot, at) = (number / NODES, (number % NODES) as usize);
         if snapshot < self.rows.len() as u64 {
             if let Some(there) = &self.rows[snapshot as usize] {
-                return found_at(snapshot, at, there.tree.as_slice());
+                return found_at(snapshot, at, &there.all);
             }
         }
         Err(Refusal::Errno(Errno::Stale))
@@ -146,16 +147,17 @@ impl Snapshots {
         Ok(Listing::from_vec(names))
     }
 
-    /// Makes a snapshot with a name, and reads its tree. Tells the attributes of its root.
+    /// Makes a snapshot with a name, reads its tree, and keeps what stands beside the world of its nodes. Tells the
+    /// attributes of its root.
     pub(crate) fn make<C: Core>(
         &mut self,
         core: &mut C,
         alloc: Global,
+        nodes: &Nodes,
         file: &[u8],
-        kept: Kept,
     ) -> Result<Attributes, Refusal>
         // It stands behind all others with its name then.
-        ensures had { IsHad C.Tells (making self.old kept file.now) core.old
+        ensures had { IsHad C.Tells (making self.old nodes.now file.now) core.old
             (with_side self.new result) core.new }
         // Where it is refused none has a name that had none before.
         ensures err { OnErr result (self.new ≡ self.old) }
@@ -168,10 +170,10 @@ impl Snapshots {
         let number = number_in(at, 0)?;
         self.rows.reserve(1)?;
         let epoch = ask_snapshot(core)?;
-        let tree = ask_tree(core, epoch)?;
-        let root = found_at(at, 0, tree.as_slice())?;
-        let attributes = root.attributes(number, kept)?;
-        self.rows.push(Some(Snapshot { name, epoch, tree }))?;
+        let all = keep_or_drop(core, alloc, nodes, epoch)?;
+        let root = found_at(at, 0, &all)?;
+        let attributes = root.attributes(number)?;
+        self.rows.push(Some(Snapshot { name, epoch, all }))?;
         Ok(attributes)
     }
 }
@@ -187,36 +189,30 @@ fn ask_snapshot<C: Core>(core: &mut C) -> Result<Epoch, Refusal>
     }
 }
 
-/// The tree of a snapshot. Where it can't be read, the snapshot is dropped.
-fn ask_tree<C: Core>(core: &mut C, epoch: Epoch) -> Result<Tree, Refusal>
-    // One call tells it, and another drops the snapshot where it does not.
-    ensures { IsHad C.Tells (ask_tree epoch) core.old result core.new }
+/// The tree of a snapshot, and what is kept of its nodes. Where either is refused, the snapshot is dropped.
+fn keep_or_drop<C: Core>(
+    core: &mut C,
+    alloc: Global,
+    nodes: &Nodes,
+    epoch: Epoch,
+) -> Result<KeptTree, Refusal>
+    // Nothing is left of a snapshot that is refused so.
+    ensures { IsHad C.Tells (undoing (drop_epoch epoch) (ask_kept_tree nodes.now epoch)) core.old
+        result core.new }
 {
-    let answer = core.call(Call::SnapshotOrCleaner(SnapshotOrCleanerCall::Show(epoch)));
-    match tree_told(answer) {
-        Ok(tree) => Ok(tree),
+    match ask_kept_tree(core, alloc, nodes, epoch) {
+        Ok(all) => Ok(all),
         Err(refusal) => drop_refused(core, epoch, refusal),
     }
 }
 
-/// Drops a snapshot whose tree was refused.
-fn drop_refused<C: Core>(core: &mut C, epoch: Epoch, refusal: Refusal) -> Result<Tree, Refusal>
+/// Drops a snapshot for whose nodes a refusal was told.
+fn drop_refused<C: Core>(core: &mut C, epoch: Epoch, refusal: Refusal) -> Result<KeptTree, Refusal>
     // The refusal is told where the snapshot was dropped.
-    ensures { IsHad C.Tells (tree_or_drop epoch (Err refusal)) core.old result core.new }
+    ensures { IsHad C.Tells (undo (drop_epoch epoch) refusal) core.old result core.new }
 {
     drop_snapshot(core, epoch)?;
     Err(refusal)
-}
-
-/// The tree that an answer tells.
-fn tree_told(answer: Result<Answer, Fault>) -> Result<Tree, Refusal>
-    // An answer of another kind tells none.
-    ensures { result ≡ tree_told answer }
-{
-    match answer? {
-        Answer::Tree(tree) => Ok(tree),
-        _ => Err(Refusal::Errno(Errno::InputOutput)),
-    }
 }
 
 /// Drops a snapshot.

@@ -12,6 +12,8 @@ pub struct Room {
     pub free: u64,
     /// All inode slots.
     pub inodes: u64,
+    /// Those that are free for new files and directories.
+    pub free_inodes: u64,
     /// How many bytes a block has.
     pub block: u64,
 }

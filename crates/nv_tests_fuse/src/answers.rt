@@ -35,6 +35,7 @@ const NOTHING_SET: SetAttributes = SetAttributes {
     group: 9,
 };
 
+/// Numbers of nodes, worked out by hand.
 #[test]
 fn nodes_have_numbers(rt: HostRuntime) {
     for (slot, generation, node) in [
@@ -55,6 +56,7 @@ fn nodes_have_numbers(rt: HostRuntime) {
     }
 }
 
+/// The error of each fault, as the headers of C number it.
 #[test]
 fn faults_have_errors(rt: HostRuntime) {
     for (fault, number) in [
@@ -74,6 +76,7 @@ fn faults_have_errors(rt: HostRuntime) {
     same_for(&rt, &"names", Errno::NameTooLong.number(), 36);
 }
 
+/// The bytes of attributes, worked out by hand from `linux/fuse.h`.
 #[test]
 fn attributes_are_told_and_set(rt: HostRuntime) {
     let kept = Kept {

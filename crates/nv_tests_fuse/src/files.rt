@@ -4,6 +4,7 @@ use crate::message::reads;
 use nv_fuse::Operation;
 use std::test::Fail;
 
+/// Requests that read and write, in bytes worked out by hand from `linux/fuse.h`.
 #[test]
 fn reads_reads_and_writes(rt: HostRuntime) -> Result<(), Fail> {
     let cut = Operation::Malformed;
@@ -60,6 +61,7 @@ fn reads_reads_and_writes(rt: HostRuntime) -> Result<(), Fail> {
     Ok(())
 }
 
+/// A write whose length is wrong, in bytes worked out by hand.
 #[test]
 fn reads_a_write_of_a_wrong_length(rt: HostRuntime) -> Result<(), Fail> {
     let body =
@@ -75,6 +77,7 @@ fn reads_a_write_of_a_wrong_length(rt: HostRuntime) -> Result<(), Fail> {
     reads(&rt, rt.alloc(), (16, body, Operation::Malformed, whole))
 }
 
+/// Requests that open and close, in bytes worked out by hand from `linux/fuse.h`.
 #[test]
 fn reads_what_is_opened_and_closed(rt: HostRuntime) -> Result<(), Fail> {
     let cut = Operation::Malformed;

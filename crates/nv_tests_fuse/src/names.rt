@@ -4,6 +4,7 @@ use crate::message::reads;
 use nv_fuse::Operation;
 use std::test::Fail;
 
+/// Requests with a name, in bytes worked out by hand from `linux/fuse.h`.
 #[test]
 fn reads_names(rt: HostRuntime) -> Result<(), Fail> {
     let cut = Operation::Malformed;
@@ -28,6 +29,7 @@ fn reads_names(rt: HostRuntime) -> Result<(), Fail> {
     Ok(())
 }
 
+/// Requests with a new name, in bytes worked out by hand from `linux/fuse.h`.
 #[test]
 fn reads_new_names(rt: HostRuntime) -> Result<(), Fail> {
     let cut = Operation::Malformed;
@@ -76,6 +78,7 @@ fn reads_new_names(rt: HostRuntime) -> Result<(), Fail> {
     Ok(())
 }
 
+/// Requests with two names, in bytes worked out by hand from `linux/fuse.h`.
 #[test]
 fn reads_two_names(rt: HostRuntime) -> Result<(), Fail> {
     let cut = Operation::Malformed;

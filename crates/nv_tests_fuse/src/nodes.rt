@@ -11,6 +11,7 @@ const SET: &[u8; 88] = b"\x01\x02\0\0\x09\x09\x09\x09\
     \x39\0\0\0\x3d\0\0\0\x41\0\0\0\xa4\x81\0\0\x09\x09\x09\x09\
     \x4d\0\0\0\x51\0\0\0\x09\x09\x09\x09";
 
+/// Requests on a node, in bytes worked out by hand from `linux/fuse.h`.
 #[test]
 fn reads_operations_on_nodes(rt: HostRuntime) -> Result<(), Fail> {
     let cut = Operation::Malformed;
@@ -65,6 +66,7 @@ fn reads_operations_on_nodes(rt: HostRuntime) -> Result<(), Fail> {
     Ok(())
 }
 
+/// Requests without fields, in bytes worked out by hand from `linux/fuse.h`.
 #[test]
 fn reads_operations_without_fields(rt: HostRuntime) -> Result<(), Fail> {
     for (number, body, want) in [

@@ -80,6 +80,7 @@ fn has_bytes(
     Ok(())
 }
 
+/// Replies without fields, in bytes worked out by hand from `linux/fuse.h`.
 #[test]
 fn replies_without_fields_have_their_bytes(rt: HostRuntime) -> Result<(), Fail> {
     let alloc = rt.alloc();
@@ -108,6 +109,7 @@ fn replies_without_fields_have_their_bytes(rt: HostRuntime) -> Result<(), Fail> 
     )
 }
 
+/// Replies on nodes, in bytes worked out by hand from `linux/fuse.h`.
 #[test]
 fn replies_on_nodes_have_their_bytes(rt: HostRuntime) -> Result<(), Fail> {
     let alloc = rt.alloc();
@@ -143,6 +145,7 @@ fn replies_on_nodes_have_their_bytes(rt: HostRuntime) -> Result<(), Fail> {
     has_bytes(&rt, alloc, &node, head, [times, attributes, none])
 }
 
+/// Replies on files, in bytes worked out by hand from `linux/fuse.h`.
 #[test]
 fn replies_on_files_have_their_bytes(rt: HostRuntime) -> Result<(), Fail> {
     let alloc = rt.alloc();
@@ -166,6 +169,7 @@ fn replies_on_files_have_their_bytes(rt: HostRuntime) -> Result<(), Fail> {
     )
 }
 
+/// Replies that tell versions and space, in bytes worked out by hand from `linux/fuse.h`.
 #[test]
 fn replies_tell_versions_and_space(rt: HostRuntime) -> Result<(), Fail> {
     let agreed = Reply::Agreed(Agreement {
@@ -216,6 +220,7 @@ fn replies_tell_versions_and_space(rt: HostRuntime) -> Result<(), Fail> {
     Ok(())
 }
 
+/// Listed names, in bytes worked out by hand from `linux/fuse.h`.
 #[test]
 fn names_are_listed_while_there_is_room(rt: HostRuntime) -> Result<(), Fail> {
     let mut found = Vec::new(rt.alloc());

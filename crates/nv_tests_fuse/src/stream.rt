@@ -10,6 +10,7 @@ const STREAM: &[u8; 86] =
     \x2b\0\0\0\x01\0\0\0\0\0\0\0\0\0\0\0\0\0\0\0\0\0\0\0\0\0\0\0\0\0\0\0\0\0\0\0\0\0\0\0ab\0\
     \x28\0\0";
 
+/// A stream of several requests, worked out by hand.
 #[test]
 fn cuts_where_lengths_tell(rt: HostRuntime) {
     let stream = STREAM.as_slice();

@@ -22,6 +22,6 @@ returns g c =
           goes_on g.C.Core.Tells
           (move_name c.args.from.now c.args.old.now c.args.to.now c.args.new.now)
           _ _ _ _ c.in_ok-move_name.field-0 _ c.in_ok-move_name.ensures
-          (rw c.touch_both.ensures refl, refl);
+          (rw c.touch_all.ensures refl, refl);
       same = tt;
     }

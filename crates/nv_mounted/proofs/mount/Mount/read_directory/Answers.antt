@@ -5,7 +5,7 @@ use Rattle.nv_mount_beside.specs.Names.{node_named, refused}
 use Rattle.nv_mount_beside.specs.declared.outcome.Outcome.{Outcome}
 use Rattle.nv_mount_beside.specs.declared.outcome.Outcome.TheVariants as outcomes
 use Rattle.nv_mounted.specs.Dialogues.{Dialogue, Ends, IsHad}
-use Rattle.nv_mounted.specs.Listings.{is_closed, listed_from, open_under}
+use Rattle.nv_mounted.specs.Listings.{ask_listing, is_closed, listed_from, open_under}
 use Rattle.nv_mounted.specs.Side.{with_side}
 use Rattle.nv_mounted.specs.declared.side.Side.{Side}
 use Rattle.nv_mounted.proofs.Dialogues.{goes_on, stops}
@@ -29,7 +29,7 @@ returns-then-not-is_open g c =
     let core = c.args.self.now.core in
     let there = open_under c.args.file side.directories in
     let none : is_closed there ≡ true = not_false (is_closed there) c.if-not-is_open.ensures in
-    let talk = closed side c.in_ok-dir.dir c.args.file c.args.room c.args.offset there none in
+    let talk = closed side (ask_listing c.in_ok-dir.dir) c.args.file c.args.room c.args.offset there none in
     record {
       had =
           goes_on g.C.Core.Tells (Ends (node_named c.args.number)) _ _ _ _
@@ -45,7 +45,7 @@ returns-then-offset-eq0 g c =
     let there = open_under c.args.file side.directories in
     let one : is_closed there ≡ false = not_true (is_closed there) c.if-not-is_open.ensures in
     let talk =
-    at_start side c.in_ok-dir.dir c.args.file c.args.room c.args.offset there one c.if-offset-eq0.true in
+    at_start side (ask_listing c.in_ok-dir.dir) c.args.file c.args.room c.args.offset there one c.if-offset-eq0.true in
     record {
       had =
           goes_on g.C.Core.Tells (Ends (node_named c.args.number)) _ _ _ _
@@ -64,7 +64,7 @@ returns-in-Some g c =
     let names = c.in-Some.names.now in
     let later : 0 < c.args.offset = omega (arith, c.if-offset-eq0.false) in
     let talk =
-    read_before side c.in_ok-dir.dir c.args.file c.args.room c.args.offset there names
+    read_before side (ask_listing c.in_ok-dir.dir) c.args.file c.args.room c.args.offset there names
     c.in-Some.ensures.some later in
     record {
       had =
@@ -84,7 +84,7 @@ returns-in-None g c =
     let there = open_under c.args.file side.directories in
     let one : is_closed there ≡ false = not_true (is_closed there) c.if-not-is_open.ensures in
     let talk =
-    unread side c.in_ok-dir.dir c.args.file c.args.room c.args.offset there one c.in-None.ensures.none in
+    unread side (ask_listing c.in_ok-dir.dir) c.args.file c.args.room c.args.offset there one c.in-None.ensures.none in
     record {
       had =
           goes_on g.C.Core.Tells (Ends (node_named c.args.number)) _ _ _ _

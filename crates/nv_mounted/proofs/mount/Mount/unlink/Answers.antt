@@ -104,7 +104,7 @@ returns-in_err-take_away g c =
           goes_on g.C.Core.Tells (ask_shape c.in_ok-handle.handle) _ _ _ _
           c.in_ok-shape.shape _ c.in_ok-shape.ensures (
           stops g.C.Core.Tells
-          (take_away c.args.self.now.side c.in_ok-dir.dir c.in_ok-looked.looked handle shape)
+          (take_away c.args.self.now.side c.args.now c.in_ok-dir.dir c.in_ok-looked.looked handle shape)
           _ _ _ _ refused.had))));
       same = refused.same;
     })
@@ -131,7 +131,7 @@ returns g c =
           goes_on g.C.Core.Tells (ask_shape c.in_ok-handle.handle) _ _ _ _
           c.in_ok-shape.shape _ c.in_ok-shape.ensures (
           goes_on g.C.Core.Tells
-          (take_away c.args.self.now.side c.in_ok-dir.dir c.in_ok-looked.looked handle shape)
+          (take_away c.args.self.now.side c.args.now c.in_ok-dir.dir c.in_ok-looked.looked handle shape)
           _ _ _ _ (tt, c.take_away.new.self.side) _ away.had
           ((cc), refl)))));
       same = tt;
