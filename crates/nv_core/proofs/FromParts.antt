@@ -13,7 +13,7 @@ use Rattle.nv_core.specs.Formats.{empty_of, idle_actor}
 use Rattle.nv_core.specs.Rooms.{IsHandOf}
 use Rattle.nv_core.specs.Shown.{shared_of}
 use Rattle.nv_core.specs.Worlds.{EventRun, IsWorldAfter}
-use Rattle.nv_core.specs.declared.parts.Parts.{Parts}
+use Rattle.nv_parts.specs.declared.parts.Parts.{Parts}
 use Rattle.nv_core.specs.declared.shared.Shared as code
 use Rattle.nv_core.specs.declared.world.Actor.{Actor}
 

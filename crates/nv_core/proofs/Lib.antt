@@ -68,7 +68,6 @@ pub mod HeldRooms
 pub mod Replies
 pub mod RestStarts
 pub mod RestartedWorlds
-pub mod RestingParts
 pub mod RetirePhase
 pub mod Retires
 pub mod RoomsAfter

@@ -19,7 +19,7 @@ use Rattle.nv_restart.proofs.Start.{starts}
 use Rattle.nv_restart.specs.Mounted.{mounted}
 use Rattle.nv_restart.specs.Stops.{MayStop}
 use Rattle.nv_core.specs.AtRest.{at_rest}
-use Rattle.nv_core.specs.declared.parts.Parts.{Parts}
+use Rattle.nv_parts.specs.declared.parts.Parts.{Parts}
 
 -- the parts of a world are those that a mount made
 pub record AreMade (parts : Parts) (made : MountedParts) : Type 0 where

@@ -51,13 +51,13 @@ use Rattle.nv_machine.proofs.FiledMarks.{pair_low}
 use Rattle.nv_machine.proofs.Lists.{self}
 use Rattle.nv_machine.proofs.MarksInUse.{any_none}
 use Rattle.nv_core.specs.AtRest.{at_rest}
-use Rattle.nv_core.specs.declared.parts.Parts.{Parts}
+use Rattle.nv_parts.specs.declared.parts.Parts.{Parts}
 use Rattle.nv_core.proofs.AuditCounts.{count_below, count_filter, count_none, no_pass}
 use Rattle.nv_core.proofs.AuditRecords.{both, by_records, in_pairs, owed_at, recorded}
 use Rattle.nv_restart.specs.Stops.{AreHeldLawful, MayStop}
 use Rattle.nv_restart.proofs.JudgedLogs.{all_shaped, all_sound, settled_is}
 use Rattle.nv_restart.proofs.JudgedNodes.{tree_at, tree_now}
-use Rattle.nv_core.proofs.RestingParts.{rest_early, rest_erased, rest_lists, rest_once, rest_pages, rest_pool, rest_sizes}
+use Rattle.nv_parts.proofs.RestingParts.{rest_early, rest_erased, rest_lists, rest_once, rest_pages, rest_pool, rest_sizes}
 
 -- ---- lists
 

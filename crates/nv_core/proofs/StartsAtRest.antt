@@ -52,7 +52,7 @@ use Rattle.nv_machine.proofs.WorldsAtRest.{start_again}
 use Rattle.nv_core.specs.AtRest.{AreJudged, at_rest}
 use Rattle.nv_core.specs.Audited.{device_of, parts_by_actor}
 use Rattle.nv_core.specs.Worlds.{EventRun}
-use Rattle.nv_core.specs.declared.parts.Parts.{Parts}
+use Rattle.nv_parts.specs.declared.parts.Parts.{Parts}
 use Rattle.nv_core.proofs.AuditCounts.{count_filter}
 use Rattle.nv_core.proofs.AuditLaw.{agree}
 use Rattle.nv_restart.proofs.JudgedLogs.{settled_is}
@@ -61,7 +61,7 @@ use Rattle.nv_restart.proofs.WorldImages.{all_may_stop}
 use Rattle.nv_restart.specs.Stops.{MayStop}
 use Rattle.nv_core.proofs.PastEnds.{sound_ends}
 use Rattle.nv_core.proofs.RestStarts.{all_alike, kept_same, no_picks}
-use Rattle.nv_core.proofs.RestingParts.{rest_once_is, rest_pool_is}
+use Rattle.nv_parts.proofs.RestingParts.{rest_once_is, rest_pool_is}
 
 -- ---- lists
 

@@ -28,7 +28,6 @@ ghost use Rattle.nv_core.specs.Parts.{HaveSlots};
 ghost use Rattle.nv_core.specs.Readied.{filled_hand};
 ghost use Rattle.nv_core.specs.Shown.{hand_of, slots_in};
 
-use crate::fill::Text;
 use nv_alloc::Hand;
 use nv_base::Fault;
 use nv_book::Book;
@@ -37,6 +36,7 @@ use nv_calls::{
     publish_on, ready_filled, retire_on,
 };
 use nv_cell::InodeCell;
+use nv_parts::Text;
 use std::alloc::Global;
 
 /// How many log pages a call wants, with the data blocks in the hand.

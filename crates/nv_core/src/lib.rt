@@ -11,7 +11,6 @@ mod call_name;
 mod calls_end;
 mod ending;
 mod event;
-mod fill;
 mod format;
 mod image_room;
 mod inside;
@@ -44,7 +43,6 @@ mod world;
 pub use call_name::CallName;
 pub use calls_end::MOST_STEPS;
 pub use event::{Event, Reply};
-pub use fill::Text;
 pub use next_step::{NextStep, StepName};
 pub use nv_audit::{Audited, DataBlocks, Image, SlotImage};
 pub use nv_base::{
@@ -54,8 +52,8 @@ pub use nv_base::{
 pub use nv_calls::{Answer, Call, SnapshotOrCleanerCall};
 pub use nv_entry::{NodeCopy, Path, Tree, TreeNode};
 pub use nv_log::ChainImage;
+pub use nv_parts::{Parts, Text};
 pub use nv_reader::root;
-pub use parts::Parts;
 pub use reports::{Lists, LogCounts, Space};
 pub use sink::{Sink, SinkFault};
 pub use snaps::{SnapCounts, Snaps};

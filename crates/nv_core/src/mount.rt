@@ -9,10 +9,10 @@ ghost use Rattle.nv_core.specs.Worlds.{Shows};
 
 use crate::World;
 use crate::beside::Beside;
-use crate::parts::Parts;
 use nv_audit::{Image, judge};
 use nv_base::{Fault, Items};
 use nv_mount::{MountedParts, mount_parts};
+use nv_parts::Parts;
 use std::alloc::Global;
 
 impl World {

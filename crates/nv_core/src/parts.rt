@@ -1,4 +1,4 @@
-//! The parts of a world, how a world comes apart, and how parts become one.
+//! How a world comes apart, and how parts become one.
 
 ghost use Rattle.std.specs.Prelude.{◌≡◌, ◌⊎◌, List, IfErr, IfOk, None, OnOk, length};
 ghost use Rattle.std.specs.List.{list_any};
@@ -15,57 +15,13 @@ ghost use Rattle.nv_core.specs.Worlds.{Shows};
 
 use crate::World;
 use crate::beside::Beside;
-use crate::shared::{Shared, dismantle_cells};
+use crate::shared::Shared;
 use crate::world::Actor;
-use nv_alloc::{FreeList, InodePool};
 use nv_audit::rest_differs;
 use nv_base::{Fault, Geometry, Items};
 use nv_book::Book;
-use nv_cell::InodeCell;
-use nv_mount::dismantle_lists;
+use nv_parts::Parts;
 use std::alloc::Global;
-
-/// What a world has beside its actors: the numbers that it was made for, the cell of each inode slot, the free list of
-/// each CPU, the pool of inode numbers, and the book. Cells and lists own blocks, which end with them.
-pub struct Parts {
-    pub geometry: Geometry,
-    pub cells: Items<InodeCell>,
-    pub lists: Items<FreeList>,
-    pub pool: InodePool,
-    pub book: Book,
-}
-
-impl Drop for Parts {
-    /// Each block that the parts own ends here.
-    fn drop(self) {
-        let Parts {
-            geometry: _,
-            cells,
-            lists,
-            pool: _,
-            book: _,
-        } = self;
-        dismantle_lists(lists.into_vec());
-        dismantle_cells(cells.into_vec());
-    }
-}
-
-impl Parts {
-    /// The parts one by one, in the order of the fields.
-    pub fn into_fields(self) -> (Geometry, Items<InodeCell>, Items<FreeList>, InodePool, Book)
-        // The parts are given one by one.
-        ensures { result ≡ (self.geometry, self.cells, self.lists, self.pool, self.book) }
-    {
-        let Parts {
-            geometry,
-            cells,
-            lists,
-            pool,
-            book,
-        } = self;
-        (geometry, cells, lists, pool, book)
-    }
-}
 
 impl World {
     /// Takes the world apart, where no actor has a call: they are the parts of a world at rest, and [`World::from_parts`]
@@ -112,6 +68,24 @@ impl Shared {
             lists: Items::from_vec(lists),
             pool,
             book,
+        }
+    }
+
+    /// What actors share, of these parts, where nobody holds the commit lock.
+    fn of_parts(parts: Parts, owners: Vec<Option<u64>>) -> Shared
+        ensures parts { parts_of result ≡ parts }
+        ensures owners { result.owners ≡ owners }
+        ensures holder { result.holder ≡ None }
+    {
+        let (geometry, cells, lists, pool, book) = parts.into_fields();
+        Shared {
+            geometry,
+            lists: lists.into_vec(),
+            pool,
+            cells: cells.into_vec(),
+            owners,
+            book,
+            holder: None,
         }
     }
 }
@@ -165,32 +139,12 @@ impl World {
             actors,
             room,
         } = beside;
-        let shared = parts.into_shared(owners);
+        let shared = Shared::of_parts(parts, owners);
         World {
             alloc,
             shared,
             actors,
             room,
-        }
-    }
-}
-
-impl Parts {
-    /// What actors share, where nobody holds the commit lock.
-    fn into_shared(self, owners: Vec<Option<u64>>) -> Shared
-        ensures parts { parts_of result ≡ self }
-        ensures owners { result.owners ≡ owners }
-        ensures holder { result.holder ≡ None }
-    {
-        let (geometry, cells, lists, pool, book) = self.into_fields();
-        Shared {
-            geometry,
-            lists: lists.into_vec(),
-            pool,
-            cells: cells.into_vec(),
-            owners,
-            book,
-            holder: None,
         }
     }
 }

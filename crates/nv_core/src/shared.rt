@@ -9,6 +9,7 @@ use nv_base::{Geometry, Handle, Ino};
 use nv_book::Book;
 use nv_cell::InodeCell;
 use nv_mount::dismantle_lists;
+use nv_parts::dismantle_cells;
 
 /// The free list of each CPU, the pool of inode numbers, the cell of each slot with the actor that holds its lock, the
 /// book, and the actor that holds the commit lock. It owns blocks, so it is no `Drop`.
@@ -102,12 +103,4 @@ impl Shared {
         dismantle_lists(lists);
         dismantle_cells(cells);
     }
-}
-
-/// Takes all cells apart with their blocks.
-pub(crate) fn dismantle_cells(mut cells: Vec<InodeCell>) {
-    while let Some(cell) = cells.pop() {
-        cell.dismantle();
-    }
-    cells.destroy_empty();
 }

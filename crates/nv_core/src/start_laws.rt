@@ -8,7 +8,7 @@ ghost use Rattle.nv_machine.specs.Step.{after};
 ghost use Rattle.nv_restart.specs.Stops.{MayStop};
 ghost use Rattle.nv_core.specs.AtRest.{AreJudged, at_rest};
 ghost use Rattle.nv_core.specs.Worlds.{EventRun};
-ghost use Rattle.nv_core.specs.declared.parts.Parts.{Parts};
+ghost use Rattle.nv_parts.specs.declared.parts.Parts.{Parts};
 
 /// Parts at rest make, with actors that have no calls, a world where a run may start, with the records of the book, and
 /// where the machine may stop.

@@ -6,11 +6,11 @@ use Rattle.nv_base.specs.declared.fault.Fault.TheVariants.{Mismatch, SeatsOut}
 use Rattle.nv_base.specs.declared.fault.MismatchPart.TheVariants.{Lists}
 use Rattle.nv_base.specs.declared.geometry.Geometry.{Geometry}
 use Rattle.nv_cell.specs.Cell.{CellValue}
-use Rattle.nv_core.specs.AtRest.{IsMismatchOf}
-use Rattle.nv_core.specs.declared.parts.Parts.{Parts}
+use Rattle.nv_parts.specs.AtRest.{IsMismatchOf}
+use Rattle.nv_parts.specs.declared.parts.Parts.{Parts}
 use Rattle.nv_service.specs.Closing.{AreBeside, IsDifference, IsNotOlder}
-use Rattle.nv_service.specs.UnlockedParts.{AreAllSlots, AreInPlace, BesideCellValue, IsKnown, rest_told, cell_told}
-use Rattle.nv_service.specs.Sessions.{SessionValue}
+use Rattle.nv_sessions.specs.UnlockedParts.{AreAllSlots, AreInPlace, BesideCellValue, IsKnown, rest_told, cell_told}
+use Rattle.nv_sessions.specs.Sessions.{SessionValue}
 use Rattle.nv_service.proofs.NotOlder.{not_older}
 
 -- no cell is older than a session has seen it
@@ -20,13 +20,6 @@ pub none_older : (opened : List ℕ) (sessions : List SessionValue) (rests : Lis
     → All (λ (s : SessionValue). IsNotOlder opened s.seen cells) sessions
 none_older opened sessions rests cells fit placed known =
     λ k d lt. not_older opened (slice_index_or sessions k d).seen rests cells fit placed (known k d lt)
-
--- what lay beside cells is as it came out of their locks
-pub beside : (geometry : Geometry) (slots : ℕ) (parts : Parts) (rests cells : List BesideCellValue) → cells ≡ rests
-    → parts.geometry ≡ geometry → length cells ≡ slots → AreAllSlots rests → map rest_told rests ≡ map cell_told parts.cells
-    → AreBeside geometry slots parts cells
-beside geometry slots parts rests cells same device count order told =
-    record { device = device; count = count; order = subst AreAllSlots (sym same) order; told = ap (map rest_told) same ∙ told }
 
 -- the seats are not why parts differ
 pub not_seats : (parts : Parts) (cells : List BesideCellValue) (fault : Fault)

@@ -1,25 +1,16 @@
 -- What a session has seen, and the cells that come out of their locks.
-use Rattle.std.proofs.Common.{◌≡◌, ◌∙◌, ◌<◌, ◌≤◌, ℕ, List, [], All, ap, arith, length, map, refl, slice_index, slice_index_or, subst, sym}
+use Rattle.std.proofs.Common.{◌≡◌, ◌∙◌, ◌<◌, ◌≤◌, ℕ, List, All, ap, arith, length, map, slice_index, slice_index_or, subst, sym}
 use Rattle.std.proofs.lemmas.List.{get_or-map, length-map}
 use Rattle.nv_cell.specs.Cell.{CellValue}
 use Rattle.nv_service.specs.Closing.{IsNotOlder}
-use Rattle.nv_service.specs.Locked.{version_at}
-use Rattle.nv_service.specs.UnlockedParts.{AreInPlace, BesideCellValue, IsKnown, Told, rest_told, cell_told}
+use Rattle.nv_sessions.specs.Locked.{version_at}
+use Rattle.nv_sessions.specs.UnlockedParts.{AreInPlace, BesideCellValue, IsKnown, Told, rest_told, cell_told}
 
 no_rest : BesideCellValue
 no_rest = record { slot = 0; ino = 0; blocks = 0; version = 0 }
 
 no_told : Told
 no_told = record { blocks = 0; version = 0 }
-
--- no owner's version is below that of the opening
-pub known_from_start : (opened seen : List ℕ) (rests : List BesideCellValue) → All (IsKnown opened seen) rests
-    → All (IsKnown opened []) rests
-known_from_start opened seen rests known = λ k d lt.
-    let rest = slice_index_or rests k d in
-    let none : slice_index [] rest.ino ≡ 0 = refl in
-    let met : version_at opened rest.ino (slice_index seen rest.ino) ≤ rest.version = known k d lt in
-    omega (arith, met, none)
 
 -- no cell is older than what was seen, where its owner knows as much
 pub not_older : (opened seen : List ℕ) (rests : List BesideCellValue) (cells : List CellValue)

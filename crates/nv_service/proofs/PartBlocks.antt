@@ -14,12 +14,12 @@ use Rattle.nv_machine.specs.Recorded.{records_after}
 use Rattle.nv_core.specs.AtRest.{AreJudged, IsBusy, at_rest, parts_of}
 use Rattle.nv_core.specs.Consistent.{IsConsistentWorld}
 use Rattle.nv_core.specs.Worlds.{Shows, WorldState}
-use Rattle.nv_core.specs.declared.parts.Parts.{Parts}
-use Rattle.nv_core.proofs.RestingParts.{rest_once}
+use Rattle.nv_parts.specs.declared.parts.Parts.{Parts}
+use Rattle.nv_parts.proofs.RestingParts.{rest_once}
 use Rattle.nv_core.proofs.SpaceLaw.{just_as_many}
-use Rattle.nv_service.specs.Opened.{blocks_at, cell_blocks, list_blocks}
-use Rattle.nv_service.specs.Opening.{blocks_in}
-use Rattle.nv_service.specs.UnlockedParts.{list_told}
+use Rattle.nv_sessions.specs.Opened.{blocks_at, cell_blocks, list_blocks}
+use Rattle.nv_sessions.specs.Opening.{blocks_in}
+use Rattle.nv_sessions.specs.UnlockedParts.{list_told}
 
 -- ---- counted one by one
 

@@ -5,10 +5,10 @@ use Rattle.nv_base.specs.declared.fault.Fault.TheVariants.{Mismatch}
 use Rattle.nv_base.specs.declared.fault.MismatchPart.TheVariants.{Lists}
 use Rattle.nv_base.specs.declared.geometry.Geometry.{Geometry}
 use Rattle.nv_cell.specs.Cell.{CellValue}
-use Rattle.nv_core.specs.AtRest.{IsMismatchOf}
-use Rattle.nv_core.specs.declared.parts.Parts.{Parts}
-use Rattle.nv_service.specs.Locked.{version_at}
-use Rattle.nv_service.specs.UnlockedParts.{AreAllSlots, AreInPlace, BesideCellValue, rest_told, cell_told}
+use Rattle.nv_parts.specs.AtRest.{IsMismatchOf}
+use Rattle.nv_parts.specs.declared.parts.Parts.{Parts}
+use Rattle.nv_sessions.specs.Locked.{version_at}
+use Rattle.nv_sessions.specs.UnlockedParts.{AreAllSlots, AreInPlace, BesideCellValue, rest_told, cell_told}
 
 -- no cell is older than what was seen of its inode; where nothing was seen, than at the opening
 abbrev pub IsNotOlder : List ℕ → List ℕ → List CellValue → Type 0
@@ -17,11 +17,11 @@ IsNotOlder opened seen cells =
     → version_at opened ino (slice_index seen ino) ≤ (slice_index_or cells ino d).state.version
 
 -- parts of a device, and what lay beside its cells
-pub record AreBeside (geometry : Geometry) (slots : ℕ) (parts : Parts) (cells : List BesideCellValue) : Type 0 where
+pub record AreBeside (geometry : Geometry) (parts : Parts) (cells : List BesideCellValue) : Type 0 where
   -- the parts are of the service's device
   pub device : parts.geometry ≡ geometry
-  -- something lay beside each of so many cells
-  pub count : length cells ≡ slots
+  -- something lay beside the cell of each inode slot
+  pub count : length cells ≡ geometry.numbers.inodes
   -- it stands in the order of the slots
   pub order : AreAllSlots cells
   -- of each slot it tells as many blocks as the cell has, and the cell's version

@@ -6,12 +6,11 @@ ghost use Rattle.nv_core.specs.AtRest.{AreJudged, at_rest, parts_of};
 ghost use Rattle.nv_core.specs.Worlds.{Shows};
 ghost use Rattle.nv_service.specs.Closing.{IsDifference};
 ghost use Rattle.nv_service.specs.Judging.{IsFound, after_refusal};
-ghost use Rattle.nv_service.specs.UnlockedParts.{AreInPlace};
+ghost use Rattle.nv_sessions.specs.UnlockedParts.{AreInPlace};
 
-use crate::names::{Blocks, Commits};
-use crate::unlocked_parts::{BesideCell, are_in_place};
 use nv_base::{Fault, MismatchPart};
 use nv_core::{Parts, World};
+use nv_sessions::{Blocks, Commits, UnlockedParts};
 use std::alloc::Global;
 use std::marker::Model;
 
@@ -56,20 +55,20 @@ impl Judge {
         &mut self,
         alloc: Global,
         parts: Parts,
-        cells: &[BesideCell<C, B>],
+        rests: &UnlockedParts<C, B>,
     ) -> Result<World, (Fault, Parts)>
         ensures shows { IfOk result (λ world. Shows world (at_rest parts)) }
         ensures parts { IfOk result (λ world. parts_of world.shared ≡ parts) }
         // Parts at rest, with each cell from its own slot, make a world.
         ensures judged { OnOk result (AreJudged parts) }
-        ensures placed { OnOk result (AreInPlace cells.now) }
+        ensures placed { OnOk result (AreInPlace rests.now.cells.items) }
         // Others are refused by the first part that differs.
         ensures err { IfErr result (λ refused.
-            (refused.0 ≡ out_of_memory) ⊎ IsDifference parts cells.now refused.0) }
+            (refused.0 ≡ out_of_memory) ⊎ IsDifference parts rests.now.cells.items refused.0) }
         ensures found { IfErr result (λ refused. IsFound self.old self.new refused.0) }
         ensures same { IfErr result (λ refused. refused.1 ≡ parts) }
     {
-        match in_place(alloc, parts, cells) {
+        match in_place(alloc, parts, rests) {
             Ok(world) => Ok(world),
             Err((fault, parts)) => {
                 self.note(fault);
@@ -93,21 +92,21 @@ impl Judge {
 fn in_place<C: Commits, B: Blocks>(
     alloc: Global,
     parts: Parts,
-    cells: &[BesideCell<C, B>],
+    rests: &UnlockedParts<C, B>,
 ) -> Result<World, (Fault, Parts)>
     ensures shows { IfOk result (λ world. Shows world (at_rest parts)) }
     ensures parts { IfOk result (λ world. parts_of world.shared ≡ parts) }
     ensures judged { OnOk result (AreJudged parts) }
-    ensures placed { OnOk result (AreInPlace cells.now) }
+    ensures placed { OnOk result (AreInPlace rests.now.cells.items) }
     ensures err { IfErr result (λ refused.
-        (refused.0 ≡ out_of_memory) ⊎ IsDifference parts cells.now refused.0) }
+        (refused.0 ≡ out_of_memory) ⊎ IsDifference parts rests.now.cells.items refused.0) }
     ensures same { IfErr result (λ refused. refused.1 ≡ parts) }
 {
     let world = match World::from_parts(alloc, parts) {
         Ok(world) => world,
         Err(refused) => return Err(refused),
     };
-    if are_in_place(cells) {
+    if rests.are_in_place() {
         return Ok(world);
     }
     match world.into_parts() {

@@ -1,54 +1,52 @@
-//! The parts of a world behind locks.
+//! A world behind locks, with the judge of whether its parts make a world again.
 
-ghost use Rattle.std.specs.Prelude.{◌≡◌, ◌+◌, ◌≤◌, [], MatchOption, Some, map, slice_get, vec_capacity, vec_len};
-ghost use Rattle.std.specs.Option.{option_map};
-ghost use Rattle.crossbeam_utils.specs.Padded.{padded_value};
-ghost use Rattle.nv_service.specs.UnlockedParts.{AreAllSlots, list_told, rest_told, cell_told};
-ghost use Rattle.nv_service.specs.Snapped.{AreSnapped};
+ghost use Rattle.std.specs.Prelude.{◌≡◌, ◌⊎◌, ◌<◌, ◌↔◌, IfErr, IfOk, OnErr, OnOk, map};
+ghost use Rattle.std.specs.List.{range_with_len};
+ghost use Rattle.nv_base.specs.Memory.{out_of_memory};
+ghost use Rattle.nv_base.specs.Refusals.{IsRefusedBy};
+ghost use Rattle.nv_base.specs.declared.fault.Fault.TheVariants.{BadGeometry, SeatsOut};
+ghost use Rattle.nv_base.specs.declared.fault.GeometryField.TheVariants.{Seats};
+ghost use Rattle.nv_base.specs.declared.limits.TheConstants.{ACTORS};
+ghost use Rattle.nv_sessions.specs.Seats.{new_session};
 
-use crate::book::LockedBook;
-use crate::cell::LockedCell;
-use crate::cell_locks::CellLocks;
-use crate::close::PartRoom;
-use crate::deferred_flag::DeferredFlag;
 use crate::judge::Judge;
-use crate::list::LockedList;
-use crate::names::{Blocks, Commits};
-use crate::passes::Fresh;
-use crate::seats::Seating;
-use crate::unlocked::{unlock_cells, unlock_lists};
-use crate::unlocked_parts::UnlockedParts;
-use crossbeam_utils::CachePadded;
-use nv_alloc::InodePool;
-use nv_base::{Geometry, Ino, Items, MismatchPart};
-use nv_core::Parts;
+use nv_base::{Fault, Geometry, MismatchPart};
+use nv_sessions::{Blocks, Commits, LockedParts, Session};
 use std::alloc::Global;
-use std::sync::ledger::Total;
-use std::sync::{Mutex, RwLock};
+use std::marker::Model;
+use std::ops::Deref;
 
-/// The parts of a world behind locks: a cell for each inode slot, a free list for each CPU, the pool of inode numbers, and
-/// the book. The lists, the pool, the book and the flag of its deferred records have cache lines of their own. All blocks
-/// together are those of the device.
+/// A world whose parts lie behind locks. Sessions call its [`LockedParts`], whose methods it has.
+#[derive(Drop)]
 pub struct Service<C: Commits, B: Blocks> {
-    pub(crate) alloc: Global,
-    pub(crate) geometry: Geometry,
-    pub(crate) cells: CellLocks<C, B>,
-    pub(crate) lists: Vec<CachePadded<Mutex<LockedList<B>>>>,
-    pub(crate) pool: CachePadded<Mutex<InodePool>>,
-    pub(crate) book: CachePadded<Mutex<LockedBook<C>>>,
-    pub(crate) deferred_flag: CachePadded<DeferredFlag>,
-    pub(crate) fresh: Fresh<C>,
-    pub(crate) seating: Seating<C, B>,
-    pub(crate) total: Total<B>,
+    pub(crate) parts: LockedParts<C, B>,
     pub(crate) judge: Judge,
-    // The total of its ledger of blocks is the device's number of blocks, and all parts of the ledger are accounted
-    // for.
-    ghost placed: { vec_len cells.locks + vec_len lists ≡ B.placed },
-    // Each slot has a lock, and so has each CPU.
-    ghost slots: { vec_len cells.locks ≡ geometry.numbers.inodes },
-    ghost cpus: { vec_len lists ≡ geometry.numbers.cpus },
-    ghost all_parts: { total.parts ≡ B.whole },
-    ghost all_blocks: { total.amount ≡ geometry.numbers.blocks },
+}
+
+impl<C: Commits, B: Blocks> Model for Service<C, B> {
+    ghost use Rattle.nv_service.specs.Services.{ServiceValue};
+
+    ghost Value = { ServiceValue };
+
+    ghost view = { λ s. record {
+      geometry = s.parts.geometry;
+      seating = record { given = s.parts.seating.given };
+      blocks = s.parts.total.amount;
+      judge = s.judge;
+    } };
+}
+
+impl<C: Commits, B: Blocks> Deref for Service<C, B> {
+    type Target = LockedParts<C, B>;
+
+    ghost deref_gives = { λ s p. p.geometry ≡ s.geometry };
+
+    fn deref(&self) -> &LockedParts<C, B>
+        // They are the parts of the service's device.
+        ensures { result.now.geometry ≡ self.now.geometry }
+    {
+        &self.parts
+    }
 }
 
 impl<C: Commits, B: Blocks> Service<C, B> {
@@ -56,35 +54,30 @@ impl<C: Commits, B: Blocks> Service<C, B> {
     pub fn geometry(&self) -> &Geometry
         ensures { result.now ≡ self.now.geometry }
     {
-        &self.geometry
+        self.parts.geometry()
     }
 
-    /// The lock of an inode's cell, where there is such a slot: each slot has its own.
-    /// Only tested: each inode slot and each CPU has a lock of its own.
-    pub fn inode_lock(&self, ino: Ino) -> Option<&RwLock<LockedCell<C, B>>>
-        // There is a lock exactly for the number of an inode slot.
-        ensures { MatchOption result (vec_len self.now.cells.locks ≤ ino)
-            (λ lock. slice_get self.now.cells.locks.items ino ≡ Some lock.now) }
+    /// Gives out so many sessions, numbered from 0 on, that have seen and committed nothing and have empty hands: once
+    /// for each service.
+    ///
+    /// `SeatsOut` where sessions were given out already; `BadGeometry` where there are none or more than 64 to give out;
+    /// `OutOfMemory` where room was refused. Nothing has changed then.
+    pub fn seats(&mut self, alloc: Global, count: u64) -> Result<Vec<Session<C, B>>, Fault>
+        // As many sessions are given out, numbered from 0, which have seen and committed nothing.
+        ensures sessions { IfOk result (λ sessions.
+            sessions.items ≡ map new_session (range_with_len 0 count)) }
+        ensures given { OnOk result (self.new.seating.given ≡ count) }
+        // They are given out once, 1 to 64 of them, and else nothing changes.
+        ensures out { IsRefusedBy result SeatsOut ↔ (0 < self.old.seating.given) }
+        ensures bad { IsRefusedBy result (BadGeometry Seats)
+            ↔ ((self.old.seating.given ≡ 0) × ((count ≡ 0) ⊎ (ACTORS < count))) }
+        ensures err { IfErr result (λ fault.
+            (fault ≡ SeatsOut) ⊎ (fault ≡ BadGeometry Seats) ⊎ (fault ≡ out_of_memory)) }
+        ensures geometry { self.new.geometry ≡ self.old.geometry }
+        ensures rest { (self.new.blocks ≡ self.old.blocks) × (self.new.judge ≡ self.old.judge) }
+        ensures same { OnErr result (self.new.seating.given ≡ self.old.seating.given) }
     {
-        self.cells.get(ino.number() as usize)
-    }
-
-    /// The lock of a CPU's free list, where there is such a CPU.
-    pub fn list_lock(&self, cpu: u64) -> Option<&Mutex<LockedList<B>>>
-        // There is a lock exactly for the number of a CPU, and one for the book.
-        ensures { MatchOption result (vec_len self.now.lists ≤ cpu)
-            (λ lock. option_map padded_value (slice_get self.now.lists.items cpu)
-            ≡ Some lock.now) }
-    {
-        let padded = self.lists.get(cpu as usize)?;
-        Some(&**padded)
-    }
-
-    /// The lock of the book: the commit lock.
-    pub fn book_lock(&self) -> &Mutex<LockedBook<C>>
-        ensures { result.now ≡ padded_value self.now.book }
-    {
-        &self.book
+        self.parts.seats(alloc, count)
     }
 
     /// The part that was found to differ when [`Service::close`] was last refused by a `Mismatch`, if it ever was.
@@ -94,121 +87,4 @@ impl<C: Commits, B: Blocks> Service<C, B> {
     {
         self.judge.found()
     }
-}
-
-impl<C: Commits, B: Blocks> Service<C, B> {
-    /// Takes all values out of their locks: the parts, and what lay beside them. The judge comes out too.
-    pub(crate) fn unlock(self, room: PartRoom<C, B>) -> (Parts, UnlockedParts<C, B>, Judge)
-        requires cells { (room.cells.items ≡ [])
-            × (vec_len self.cells.locks ≤ vec_capacity room.cells) }
-        requires cell_rests { (room.cell_rests.items ≡ [])
-            × (vec_len self.cells.locks ≤ vec_capacity room.cell_rests) }
-        requires lists { (room.lists.items ≡ []) × (vec_len self.lists ≤ vec_capacity room.lists) }
-        requires list_rests { (room.list_rests.items ≡ [])
-            × (vec_len self.lists ≤ vec_capacity room.list_rests) }
-        ensures cells { map rest_told result.1.cells.items ≡ map cell_told result.0.cells }
-        ensures count { vec_len result.1.cells ≡ vec_len self.cells.locks }
-        ensures slots { AreAllSlots result.1.cells.items }
-        ensures lists { result.1.lists.items ≡ map list_told result.0.lists }
-        ensures commits { result.0.book.state.commit ≡ C.commit + result.1.commits.total }
-        ensures snapshots { AreSnapped C.living C.epoch result.0.book.state.snaps
-            result.1.snap_book.total }
-        ensures geometry { (result.0.geometry ≡ self.geometry)
-            × (result.1.geometry ≡ self.geometry) }
-        ensures total { result.1.total ≡ self.total }
-        ensures given { result.1.seating.given ≡ self.seating.given }
-        ensures judge { result.2 ≡ self.judge }
-    {
-        let Service {
-            alloc,
-            geometry,
-            cells: mut cell_locks,
-            lists: mut list_locks,
-            pool,
-            book,
-            deferred_flag: _,
-            fresh,
-            seating,
-            total,
-            judge,
-        } = self;
-        let PartRoom {
-            cells,
-            cell_rests,
-            lists,
-            list_rests,
-        } = room;
-        let (cells, cell_rests) = unlock_cells(
-            alloc,
-            &geometry,
-            &mut cell_locks,
-            cells,
-            cell_rests,
-        );
-        let (lists, list_rests) = unlock_lists(&mut list_locks, lists, list_rests);
-        let LockedBook {
-            book,
-            commits,
-            snap_book,
-            flagged: _,
-        } = book.into_inner().into_inner();
-        let parts = Parts {
-            geometry,
-            cells: Items::from_vec(cells),
-            lists: Items::from_vec(lists),
-            pool: pool.into_inner().into_inner(),
-            book,
-        };
-        let rests = UnlockedParts {
-            alloc,
-            geometry,
-            cell_locks,
-            cells: cell_rests,
-            list_locks,
-            lists: list_rests,
-            commits,
-            snap_book,
-            fresh,
-            seating,
-            total,
-        };
-        (parts, rests, judge)
-    }
-}
-
-impl<C: Commits, B: Blocks> Drop for Service<C, B> {
-    /// Each block that the service owns ends here.
-    fn drop(self) {
-        let Service {
-            alloc: _,
-            geometry: _,
-            cells,
-            lists,
-            pool: _,
-            book: _,
-            deferred_flag: _,
-            fresh: _,
-            seating: _,
-            total: _,
-            judge: _,
-        } = self;
-        dismantle_cells(cells);
-        dismantle_lists(lists);
-    }
-}
-
-/// Takes all cells apart with their blocks.
-fn dismantle_cells<C: Commits, B: Blocks>(mut locks: CellLocks<C, B>) {
-    while let Some((_slot, locked)) = locks.take_last() {
-        locked.dismantle();
-    }
-    locks.destroy_empty();
-}
-
-/// Takes all lists apart with their blocks.
-fn dismantle_lists<B: Blocks>(mut locks: Vec<CachePadded<Mutex<LockedList<B>>>>) {
-    while let Some(lock) = locks.pop() {
-        lock.into_inner().into_inner().dismantle();
-    }
-    locks.destroy_empty();
 }

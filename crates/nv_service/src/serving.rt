@@ -5,16 +5,14 @@ ghost use Rattle.nv_base.specs.declared.limits.TheConstants.{ACTORS};
 ghost use Rattle.nv_core.specs.AtRest.{IsBusy};
 ghost use Rattle.nv_core.specs.Worlds.{Shows};
 ghost use Rattle.nv_machine.specs.World as machine;
-ghost use Rattle.nv_service.specs.Names.{AreBlockNames, AreCommitNames, AreSnapshotNames};
-ghost use Rattle.nv_service.specs.Opened.{versions_in};
+ghost use Rattle.nv_sessions.specs.Names.{AreBlockNames, AreCommitNames, AreSnapshotNames};
+ghost use Rattle.nv_sessions.specs.Opened.{versions_in};
 ghost use Rattle.nv_service.specs.Left.{IsLeftOf, LosesWorld};
 
-use crate::callers::{Calls, Seated};
-use crate::names::{Blocks, Commits, Ledgers};
 use crate::service::Service;
-use crate::session::Session;
 use nv_base::Fault;
 use nv_core::World;
+use nv_sessions::{Blocks, Calls, Commits, Ledgers, LockedParts, Seated, Session};
 use std::alloc::Global;
 use std::marker::Brand;
 use std::sync::{Mutex, Wait};
@@ -135,7 +133,12 @@ fn act_all<
     B: Blocks + Send + Sync,
     A: Acts + Sync,
     R: Threads + Wait + Sync,
->(rt: &R, service: &Service<C, B>, sessions: &mut [Session<C, B>], acts: &A) -> Result<(), Fault> {
+>(
+    rt: &R,
+    service: &LockedParts<C, B>,
+    sessions: &mut [Session<C, B>],
+    acts: &A,
+) -> Result<(), Fault> {
     let ended = Mutex::new(Ok(()));
     let threads = sessions.len().max(1);
     thread::for_each_mut(

@@ -14,16 +14,15 @@ use Rattle.nv_calls.specs.declared.update.Update.TheVariants as update
 use Rattle.nv_base.specs.Memory.{out_of_memory}
 use Rattle.nv_base.specs.declared.fault.Fault.{Fault}
 use Rattle.nv_base.specs.declared.fault.Fault.TheVariants as fault
-use Rattle.nv_core.specs.AtRest.{IsBusy, IsMismatchOf}
-use Rattle.nv_core.specs.declared.parts.Parts.{Parts}
+use Rattle.nv_core.specs.AtRest.{IsBusy, IsMismatchOf, Parts}
 use Rattle.nv_machine.specs.World.{World}
 use Rattle.nv_service.specs.ByValue.{IsMadeAs, after_snapshot_or_cleaner}
 use Rattle.nv_service.specs.Closing.{IsDifference}
 use Rattle.nv_service.specs.UnlockedParts.{BesideCellValue}
 use Rattle.nv_service.specs.Seats.{AreSeats, new_session}
 use Rattle.nv_service.specs.Sessions.{HeldValue, IsChangedBy, IsCommittedBy, IsViewedBy, SessionValue, with_held}
-use Rattle.nv_service.specs.declared.seen.Seen.{Seen}
-use Rattle.nv_service.specs.declared.seen.Seen.TheVariants as seen
+use Rattle.nv_sessions.specs.declared.seen.Seen.{Seen}
+use Rattle.nv_sessions.specs.declared.seen.Seen.TheVariants as seen
 use Rattle.nv_work.specs.Working.{RefusesThreads}
 
 -- ---- numbers in a row

@@ -1,6 +1,6 @@
 use Rattle.std.proofs.Common.{length}
-use Rattle.nv_service.specs.Names.{placed_parts}
-use Rattle.nv_service.specs.Opened.{versions_in}
+use Rattle.nv_sessions.specs.Names.{placed_parts}
+use Rattle.nv_sessions.specs.Opened.{versions_in}
 use Rattle.nv_service.proofs.serving.serve.Given as goal
 
 abbrev pub ghosts-serve_named-C-Ledger : goal.ghosts-serve_named-C-Ledger

@@ -5,7 +5,7 @@ use Rattle.nv_base.specs.declared.fault.Fault.{Fault}
 use Rattle.nv_base.specs.declared.fault.Fault.TheVariants.{Mismatch}
 use Rattle.nv_base.specs.declared.fault.MismatchPart.TheVariants.{Index, Names, Counts, Records, Lists}
 use Rattle.nv_core.specs.AtRest.{AreJudged, IsMismatchOf}
-use Rattle.nv_core.specs.declared.parts.Parts.{Parts}
+use Rattle.nv_parts.specs.declared.parts.Parts.{Parts}
 use Rattle.nv_core.proofs.RestStarts.{may_stop, starts}
 use Rattle.nv_core.proofs.world.World.from_parts.Goals as goal
 

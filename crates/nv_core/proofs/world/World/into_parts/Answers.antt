@@ -5,7 +5,7 @@ use Rattle.nv_core.proofs.AtRest.{busy, rests}
 use Rattle.nv_core.proofs.StartsAtRest.{rested}
 use Rattle.nv_core.specs.AtRest.{AreJudged, at_rest, has_call, parts_of}
 use Rattle.nv_core.specs.Worlds.{Shows, WorldState}
-use Rattle.nv_core.specs.declared.parts.Parts.{Parts}
+use Rattle.nv_parts.specs.declared.parts.Parts.{Parts}
 use Rattle.nv_core.proofs.world.World.into_parts.Goals as goal
 
 pub returns-then-has_call-clause-err : goal.returns-then-has_call-clause-err

@@ -1,6 +1,0 @@
-use Rattle.std.proofs.Common.{ap}
-use Rattle.nv_service.specs.Taken.{places_of}
-use Rattle.nv_service.proofs.held.PlaceGuards.none.Goals as goal
-
-pub returns : goal.returns
-returns g c = ap places_of c.new.ensures.items

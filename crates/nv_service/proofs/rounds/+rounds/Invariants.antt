@@ -1,5 +1,0 @@
-use Rattle.nv_service.proofs.rounds.+rounds.Given as goal
-
--- the rounds that are left
-abbrev pub decreases-rounds : goal.decreases-rounds
-decreases-rounds g l = l.left

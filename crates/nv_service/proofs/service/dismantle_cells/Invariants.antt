@@ -1,5 +1,0 @@
-use Rattle.std.proofs.Common.{vec_len}
-use Rattle.nv_service.proofs.service.dismantle_cells.Given as goal
-
-abbrev pub decreases-loop-slot : goal.decreases-loop-slot
-decreases-loop-slot g l = vec_len l.locks.locks

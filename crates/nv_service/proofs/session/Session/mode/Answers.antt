@@ -1,8 +1,0 @@
-use Rattle.std.proofs.Common.{arith}
-use Rattle.nv_calls.specs.declared.update.Update.TheVariants as update
-use Rattle.nv_service.proofs.Refusals.{refused_change}
-use Rattle.nv_service.proofs.session.Session.mode.Goals as goal
-
-pub returns-clause-err : goal.returns-clause-err
-returns-clause-err g c =
-    refused_change (update.Mode c.args.handle c.args.mode) c.change.result c.change.ensures.err (omega (arith, c.change.ensures.reads))

@@ -1,5 +1,0 @@
-use Rattle.nv_service.proofs.Refusals.{refused_write}
-use Rattle.nv_service.proofs.session.Session.write.Goals as goal
-
-pub returns-clause-err : goal.returns-clause-err
-returns-clause-err g c = refused_write c.args.file c.args.offset c.args.count c.change.result c.change.ensures.err

@@ -1,0 +1,34 @@
+use Rattle.std.proofs.Common.{◌≡◌, ℕ, subst, arith, refl, []}
+use Rattle.std.specs.Prelude.{IfOk}
+use Rattle.nv_calls.specs.declared.call.Call.TheVariants as call
+use Rattle.nv_sessions.specs.Sessions.{IsFoundAt}
+use Rattle.nv_sessions.specs.Refusing.{view_faults}
+use Rattle.nv_sessions.proofs.Found.{found_at}
+use Rattle.nv_sessions.proofs.OtherRefusals.{exit_is, grown_view, read_within}
+use Rattle.nv_sessions.proofs.ViewRuns.{held_read, not_read}
+use Rattle.nv_sessions.specs.ViewGuards.{place_of}
+use Rattle.nv_sessions.proofs.session.Session.read.Goals as goal
+
+pub returns-clause-ok : goal.returns-clause-ok
+returns-clause-ok g c =
+    let own : (place_of c.in_ok-guard.guard).ino ≡ c.args.file.ino = c.in_ok-guard.ensures.ok in
+    let same : c.part.result.now.state.version ≡ (place_of c.in_ok-guard.guard).version = c.part.ensures.version in
+    c.see.ensures.ok _ _ own
+    (subst (λ (v : ℕ). IfOk c.read_on-found.result (IsFoundAt v (call.Read c.args.file c.args.offset c.args.count))) same
+    (found_at _ _ _ _ _ (c.read_on-found.ensures.own)))
+
+pub returns-clause-err : goal.returns-clause-err
+returns-clause-err g c =
+    grown_view (view_faults (call.Read c.args.file c.args.offset c.args.count)) c.see.result c.read_on-found.result _
+    (read_within (λ n. []) c.args.file.ino c.part.result.now c.args.file c.args.offset c.args.count) (2, omega arith, refl) c.see.ensures.refused (c.read_on-found.ensures.err (λ n. []))
+
+pub returns-clause-run : goal.returns-clause-run
+returns-clause-run g c =
+    held_read c.args.service.now.geometry.numbers c.args.self.now.number c.args.file.ino (call.Read c.args.file c.args.offset c.args.count) refl refl c.part.result.now
+    c.in_ok-guard.ensures.slot c.see.result c.read_on-found.result c.see.ensures.told c.read_on-found.ensures.own c.read_on-found.ensures.view c.read_on-found.ensures.err refl
+
+pub returns-in_err-guard-clause-run : goal.returns-in_err-guard-clause-run
+returns-in_err-guard-clause-run g c =
+    not_read c.args.service.now.geometry.numbers c.args.self.now.number c.args.file.ino (call.Read c.args.file c.args.offset c.args.count) refl refl c.from_residual.result _
+    (exit_is c.from_residual.result _ c.from_residual.ensures.1) c.in_err-guard.ensures.err c.in_err-guard.ensures.stale
+    c.in_err-guard.ensures.misplaced

@@ -1,0 +1,8 @@
+use Rattle.std.proofs.Common.{arith}
+use Rattle.nv_calls.specs.declared.update.Update.TheVariants as update
+use Rattle.nv_sessions.proofs.Refusals.{refused_change}
+use Rattle.nv_sessions.proofs.session.Session.unlink.Goals as goal
+
+pub returns-clause-err : goal.returns-clause-err
+returns-clause-err g c =
+    refused_change (update.Unlink c.args.dir c.args.name) c.change.result c.change.ensures.err (omega (arith, c.change.ensures.reads))
