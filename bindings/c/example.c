@@ -1,4 +1,4 @@
-/* A caller in C, written to be copied. It does what crates/nv_example does: it writes a file, makes a snapshot,
+/* A caller in C, written to be copied. It does what crates/nv_example/src/letters.rt does: it writes a file, makes a snapshot,
  * writes the file anew, and shows all files as they are and as they were. */
 #include "nova.h"
 

@@ -1,4 +1,4 @@
-//! A caller in Rust, written to be copied. It does what `crates/nv_example` does: it writes a file, makes a snapshot,
+//! A caller in Rust, written to be copied. It does what `letters.rt` of `crates/nv_example` does: it writes a file, makes a snapshot,
 //! writes the file anew, and shows all files as they are and as they were.
 
 use novacore::{Fault, Geometry, Nova, Shown, ROOT};

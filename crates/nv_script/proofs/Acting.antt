@@ -1,6 +1,6 @@
 -- What a command with a reply writes, and where it leads.
-use Rattle.std.proofs.Common.{◌≡◌, ◌∙◌, ℕ, ◌+◌, ◌++◌, Bool, true, false, List, [], Result, Ok, Err, ap, inl, inr, refl, subst, sym}
-use Rattle.std.specs.Prelude.{OnOk}
+use Rattle.std.proofs.Common.{◌≡◌, ◌∙◌, ℕ, ◌+◌, ◌++◌, Bool, true, false, List, [], Option, Some, None, Result, Ok, Err, ap, inl, inr, refl, subst, sym}
+use Rattle.std.specs.Prelude.{◌≢◌, IfOk, OnOk}
 use Rattle.nv_calls.specs.declared.call.Call.{Call}
 use Rattle.nv_machine.specs.Step.{step}
 use Rattle.nv_machine.specs.World as machine
@@ -10,10 +10,15 @@ use Rattle.nv_core.specs.Whole.{GoesOn}
 use Rattle.nv_core.specs.Worlds.{IsStep, Leads, Shows, WorldState, reply_of, told_by}
 use Rattle.nv_restart.specs.Happenings.{Replied, Stop, happen, told_at}
 use Rattle.nv_restart.specs.Restarted.{restarted}
+use Rattle.nv_script.specs.declared.asked.Asked.{Asked}
 use Rattle.nv_script.specs.declared.command.Command.{Command}
 use Rattle.nv_script.specs.declared.command.Command.TheVariants as command
+use Rattle.nv_script.specs.declared.trace.Trace.{Trace}
+use Rattle.nv_script.specs.declared.trace.Trace.TheVariants as trace
 use Rattle.nv_script.specs.Play.{ActsBy, Restarts, reports_of}
+use Rattle.nv_script.specs.Results.{TellsAudit}
 use Rattle.nv_script.specs.Texts.{told_line}
+use Rattle.nv_script.specs.Trace.{ActsToldBy}
 
 -- a command on a world writes this text and leads to that world
 abbrev pub Does : Command → List ℕ → (old new : WorldState) → Type 0
@@ -56,3 +61,20 @@ stops result old new reply before text given is none writes steps =
         → Shows new (happen m (Stop granted)) → (n : machine.World) × Restarts (restarted m) m text n × Shows new n
     stopped m line true told shows = (restarted m, inl (line ∙ ap told_line told, refl), shows)
     stopped m line false told shows = (m, inr (line ∙ ap told_line told, refl), shows)
+
+-- an audit makes no event
+pub audited : {E : Type 0} (result : Result (Option Asked) E) (form : Trace) (number : ℕ) (w : WorldState) (c : Command) (text : List ℕ)
+    → form ≢ trace.Json → c ≡ command.Audit → IfOk result (λ asked. TellsAudit asked text)
+    → OnOk result (Leads (λ m n. ActsToldBy (reports_of m) form number m c text n) w w)
+audited (Err why) form number w c text plain is tells = tt
+audited (Ok asked) form number w c text plain is tells =
+    subst (λ (d : Command). Leads (λ m n. ActsToldBy (reports_of m) form number m d text n) w w) (sym is)
+    (λ m shows. (m, by form plain asked tells m, shows))
+  where
+    by : (form : Trace) → form ≢ trace.Json → (asked : Option Asked) → TellsAudit asked text → (m : machine.World)
+        → ActsToldBy (reports_of m) form number m command.Audit text m
+    by trace.Off plain None told m = (inr told, refl)
+    by trace.Off plain (Some asked) told m = (inl told, refl)
+    by trace.Text plain None told m = (inr told, refl)
+    by trace.Text plain (Some asked) told m = (inl told, refl)
+    by trace.Json plain asked told m = absurd (plain refl)

@@ -2,7 +2,6 @@ pub mod Acting
 pub mod Ahead
 pub mod Alike
 pub mod Answering
-pub mod AnswerLines
 pub mod Asking
 pub mod Breaks
 pub mod Commands
@@ -13,9 +12,6 @@ pub mod Failures
 pub mod Firsts
 pub mod Handed
 pub mod Handles
-pub mod JsonActs
-pub mod JsonParts
-pub mod JsonWorlds
 pub mod Known
 pub mod Lines
 pub mod Looked
@@ -34,12 +30,5 @@ pub mod Solid
 pub mod Taken
 pub mod Told
 pub mod Spelled
-pub mod ActingTraced
 pub mod EventLines
-pub mod Events
-pub mod StepsTold
-pub mod TracedEnds
-pub mod Tracing
 pub mod Untraced
-pub mod Pushes
-pub mod LeftParts

@@ -12,5 +12,4 @@ pub mod Outcomes
 pub mod Serially
 pub mod SerialPlayer
 pub mod Trace
-pub mod Traced
 pub mod Sound

@@ -1,15 +1,14 @@
 //! What lines do to a world, and what they write.
 
-ghost use Rattle.std.specs.Prelude.{◌≡◌, ◌≢◌, ◌<◌, ◌+◌, ◌-◌, ◌^◌, ◌++◌, [], None, IfOk, MatchResult, OnOk, false, true};
+ghost use Rattle.std.specs.Prelude.{◌≡◌, ◌≢◌, ◌<◌, ◌+◌, ◌-◌, ◌^◌, [], None, IfOk, OnOk, false, true};
 ghost use Rattle.nv_script.specs.Grammar.{is_skipped, texts};
 ghost use Rattle.nv_base.specs.Limits.{first_bad_field};
 ghost use Rattle.nv_script.specs.declared.command.Command.TheVariants.{Audit};
 ghost use Rattle.nv_script.specs.declared.trace.Trace.TheVariants as trace;
 ghost use Rattle.nv_script.specs.Play.{ActsBy, is_list, reports_of};
 ghost use Rattle.nv_script.specs.Results.{AsksAudit, IsNewWorld, LineIs, MakesWorld, TellsAudit, failed_in_line};
-ghost use Rattle.nv_script.specs.Trace.{ActsToldBy, ActsTracedBy, answer_by};
-ghost use Rattle.nv_core.specs.Worlds.{Leads, told_by};
-ghost use Rattle.nv_script.specs.Texts.{told_line};
+ghost use Rattle.nv_script.specs.Trace.{ActsToldBy};
+ghost use Rattle.nv_core.specs.Worlds.{Leads};
 ghost use Rattle.nv_script.specs.Words.{words_of};
 
 use crate::asked::Asked;
@@ -17,54 +16,24 @@ use crate::command::{Command, is_skipped, read_command, read_format};
 use crate::counted::CountedWrite;
 use crate::echo::Telling;
 use crate::fault::LineFault;
-use crate::json_act::{self, push_reply_lines};
 use crate::outbox::Outbox;
+use crate::teller::CommandTeller;
 use crate::text::{
     push_lists, push_log, push_refused, push_reply, push_snaps, push_space, push_told,
 };
-use crate::trace::{self, Trace};
 use crate::trees::write_tree_behind;
 use crate::word::{find_few, words};
 use arrayvec::ArrayVec;
 use nv_base::{Epoch, Fault, Geometry, GeometryNumbers, Ino};
-use nv_core::{Reply, World};
+use nv_core::World;
 use std::alloc::{AllocError, Global};
 
-/// Plays one line, which has no line end, and tells it so. A line that is skipped has nothing before its answers.
-///
-/// What it writes is in `out` then, as [`play_line`] and [`json_act::play_line`] leave it there.
-pub(crate) fn play_in_form<W: CountedWrite>(
-    alloc: Global,
-    world: &mut Option<World>,
-    line: &[u8],
-    telling: Telling<'_>,
-    out: &mut Vec<u8>,
-    outbox: &mut Outbox,
-    writer: &mut W,
-) -> Result<(), LineFault>
-    requires skipped { is_skipped line.now ≡ true → telling.head.now ≡ [] }
-    requires failures { W.failed writer.old < 2 ^ 64 - 1 }
-    ensures line { LineIs telling.entry.trace telling.entry.number telling.entry.head.now result
-        (record { written = W.contents writer.old; gathered = outbox.old })
-        (record { written = W.contents writer.new; gathered = outbox.new })
-        world.old line.now out.new.items world.new }
-    ensures failed { W.failed writer.new ≡ W.failed writer.old + failed_in_line result }
-    ensures same_writer { W.place writer.new ≡ W.place writer.old }
-{
-    if let Trace::Json = telling.trace {
-        return json_act::play_line(alloc, world, line, telling, out, outbox, writer);
-    }
-    match play_line(alloc, world, line, telling, out, outbox, writer) {
-        Ok(_asked) => Ok(()),
-        Err(fault) => Err(fault),
-    }
-}
-
-/// Plays one line, which has no line end, and tells it so, except as JSON. A line that is skipped has nothing before its answers.
+/// Plays one line, which has no line end, and tells it in any form except JSON. A line that is skipped has nothing before its answers.
 ///
 /// What it is answered is in `out` then, in place of what that held, except for the lines of a tree's nodes. These are sent before,
 /// and so is the head. What stands for an audit is handed on.
-pub(crate) fn play_line<W: CountedWrite>(
+pub fn play_line<T: CommandTeller, W: CountedWrite>(
+    teller: &T,
     alloc: Global,
     world: &mut Option<World>,
     line: &[u8],
@@ -73,10 +42,11 @@ pub(crate) fn play_line<W: CountedWrite>(
     outbox: &mut Outbox,
     writer: &mut W,
 ) -> Result<Option<Asked>, LineFault>
-    requires form { telling.trace ≢ trace.Json }
+    requires form { T.form ≢ trace.Json }
     requires skipped { is_skipped line.now ≡ true → telling.head.now ≡ [] }
     requires failures { W.failed writer.old < 2 ^ 64 - 1 }
-    ensures line { LineIs telling.entry.trace telling.entry.number telling.entry.head.now result (record { written = W.contents writer.old; gathered = outbox.old })
+    ensures line { LineIs T.form telling.entry.number telling.entry.head.now result
+        (record { written = W.contents writer.old; gathered = outbox.old })
         (record { written = W.contents writer.new; gathered = outbox.new })
         world.old line.now out.new.items world.new }
     // It hands on what stands for an audit, so that no line `audit` is told around it.
@@ -92,10 +62,13 @@ pub(crate) fn play_line<W: CountedWrite>(
     let mut few = ArrayVec::new();
     if find_few(line, &mut few) {
         let words = few.as_slice();
-        return play_words(alloc, world, line, words, telling, out, outbox, writer);
+        return play_words(
+            teller, alloc, world, line, words, telling, out, outbox, writer,
+        );
     }
     let many = words(alloc, line)?;
     play_words(
+        teller,
         alloc,
         world,
         line,
@@ -108,7 +81,8 @@ pub(crate) fn play_line<W: CountedWrite>(
 }
 
 /// Plays one line by its words, as [`play_line`] does.
-fn play_words<W: CountedWrite>(
+fn play_words<T: CommandTeller, W: CountedWrite>(
+    teller: &T,
     alloc: Global,
     world: &mut Option<World>,
     line: &[u8],
@@ -118,12 +92,12 @@ fn play_words<W: CountedWrite>(
     outbox: &mut Outbox,
     writer: &mut W,
 ) -> Result<Option<Asked>, LineFault>
-    requires form { telling.trace ≢ trace.Json }
+    requires form { T.form ≢ trace.Json }
     requires command { is_skipped line.now ≡ false }
     requires words { texts words.now ≡ words_of line.now }
     requires empty { out.old.items ≡ [] }
     requires failures { W.failed writer.old < 2 ^ 64 - 1 }
-    ensures line { LineIs telling.entry.trace telling.entry.number telling.entry.head.now result
+    ensures line { LineIs T.form telling.entry.number telling.entry.head.now result
         (record { written = W.contents writer.old; gathered = outbox.old })
         (record { written = W.contents writer.new; gathered = outbox.new })
         world.old line.now out.new.items world.new }
@@ -152,7 +126,7 @@ fn play_words<W: CountedWrite>(
                     Ok(None)
                 }
                 _ => {
-                    let asked = act(world, telling, command, out)?;
+                    let asked = act(teller, world, telling.number, command, out)?;
                     outbox.add(writer, head)?;
                     Ok(asked)
                 }
@@ -162,7 +136,7 @@ fn play_words<W: CountedWrite>(
 }
 
 /// Makes the world. Where that is refused there is still none.
-pub(crate) fn format(
+pub fn format(
     alloc: Global,
     world: &mut Option<World>,
     numbers: &GeometryNumbers,
@@ -191,17 +165,18 @@ fn new_world(alloc: Global, numbers: &GeometryNumbers) -> Result<World, Fault>
 }
 
 /// Acts on a command that lists no tree. What stands for an audit is handed on.
-fn act(
+fn act<T: CommandTeller>(
+    teller: &T,
     world: &mut World,
-    telling: Telling<'_>,
+    number: u64,
     command: Command,
     out: &mut Vec<u8>,
 ) -> Result<Option<Asked>, AllocError>
-    requires form { telling.trace ≢ trace.Json }
+    requires form { T.form ≢ trace.Json }
     requires other { is_list command ≡ false }
     requires empty { out.old.items ≡ [] }
     ensures acts { OnOk result
-        (Leads (λ m n. ActsToldBy (reports_of m) telling.entry.trace telling.entry.number m command
+        (Leads (λ m n. ActsToldBy (reports_of m) T.form number m command
         out.new.items n) world.old world.new) }
     // A line `audit` says that nothing differs only with what stands for an audit.
     ensures asked { IfOk result (λ asked. command ≡ Audit → TellsAudit asked out.new.items) }
@@ -209,12 +184,12 @@ fn act(
     if let Command::Audit = command {
         return audit(world, out);
     }
-    tell_by(world, telling, command, out)?;
+    teller.tell(world, number, command, out)?;
     Ok(None)
 }
 
 /// Adds what an audit of the world tells. That nothing differs it says only with what stands for an audit.
-pub(crate) fn audit(world: &World, out: &mut Vec<u8>) -> Result<Option<Asked>, AllocError>
+pub fn audit(world: &World, out: &mut Vec<u8>) -> Result<Option<Asked>, AllocError>
     requires { out.old.items ≡ [] }
     ensures { IfOk result (λ asked. TellsAudit asked out.new.items) }
 {
@@ -230,112 +205,8 @@ pub(crate) fn audit(world: &World, out: &mut Vec<u8>) -> Result<Option<Asked>, A
     }
 }
 
-/// Acts on a command that lists no tree and asks for no audit, and tells its events or not.
-fn tell_by(
-    world: &mut World,
-    telling: Telling<'_>,
-    command: Command,
-    out: &mut Vec<u8>,
-) -> Result<(), AllocError>
-    requires form { telling.trace ≢ trace.Json }
-    requires other { is_list command ≡ false }
-    requires no_audit { command ≢ Audit }
-    requires empty { out.old.items ≡ [] }
-    ensures { OnOk result
-        (Leads (λ m n. ActsToldBy (reports_of m) telling.entry.trace telling.entry.number m command
-        out.new.items n) world.old world.new) }
-{
-    match telling.trace {
-        Trace::Off => tell(world, command, out),
-        Trace::Text => tell_traced(world, telling.number, command, out),
-        Trace::Json => unreachable!(),
-    }
-}
-
-/// Acts on a command that lists no tree and asks for no audit, and tells its events before the answer.
-fn tell_traced(
-    world: &mut World,
-    number: u64,
-    command: Command,
-    out: &mut Vec<u8>,
-) -> Result<(), AllocError>
-    requires other { is_list command ≡ false }
-    requires no_audit { command ≢ Audit }
-    requires empty { out.old.items ≡ [] }
-    ensures { OnOk result (Leads (λ m n. ActsTracedBy (reports_of m) trace.Text number m command
-        out.new.items n) world.old world.new) }
-{
-    let form = Trace::Text;
-    let alloc = world.alloc();
-    match command {
-        Command::Start(actor, call) => answer(
-            trace::start(world, form, number, actor, call, out),
-            form,
-            alloc,
-            number,
-            out,
-        ),
-        Command::Go(actor, more) => answer(
-            trace::go_on(world, form, number, actor, more, out),
-            form,
-            alloc,
-            number,
-            out,
-        ),
-        Command::Run(actor) => answer(
-            trace::finish(world, form, number, actor, out),
-            form,
-            alloc,
-            number,
-            out,
-        ),
-        Command::Do(actor, call) => answer(
-            trace::call(world, form, number, actor, call, out),
-            form,
-            alloc,
-            number,
-            out,
-        ),
-        _ => tell(world, command, out),
-    }
-}
-
-/// Adds a reply behind its events, as this form tells it, where memory was granted to these.
-pub(crate) fn answer(
-    reply: Result<Reply, AllocError>,
-    form: Trace,
-    alloc: Global,
-    number: u64,
-    out: &mut Vec<u8>,
-) -> Result<(), AllocError>
-    ensures { OnOk result (MatchResult reply (λ told. out.new.items
-        ≡ out.old.items ++ answer_by form number (told_line (told_by told))) (λ _. ⊥)) }
-{
-    match reply {
-        Ok(reply) => push_reply_by(out, form, alloc, number, &reply),
-        Err(error) => Err(error),
-    }
-}
-
-/// Adds a reply as this form tells it.
-fn push_reply_by(
-    out: &mut Vec<u8>,
-    form: Trace,
-    alloc: Global,
-    number: u64,
-    reply: &Reply,
-) -> Result<(), AllocError>
-    ensures { OnOk result (out.new.items
-        ≡ out.old.items ++ answer_by form number (told_line (told_by reply.now))) }
-{
-    match form {
-        Trace::Off | Trace::Text => push_reply(out, reply),
-        Trace::Json => push_reply_lines(out, alloc, number, reply),
-    }
-}
-
 /// Acts on a command that lists no tree and asks for no audit.
-pub(crate) fn tell(world: &mut World, command: Command, out: &mut Vec<u8>) -> Result<(), AllocError>
+pub fn tell(world: &mut World, command: Command, out: &mut Vec<u8>) -> Result<(), AllocError>
     requires other { is_list command ≡ false }
     requires no_audit { command ≢ Audit }
     requires empty { out.old.items ≡ [] }

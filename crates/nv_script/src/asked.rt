@@ -5,7 +5,7 @@ use nv_core::Audited;
 /// Stands for an audit that found nothing. Only what an audit gave makes one, since no other module reaches the field.
 /// Only what an audit gave makes one: no other module reaches its field.
 #[derive(Drop)]
-pub(crate) struct Asked {
+pub struct Asked {
     found: (),
 }
 

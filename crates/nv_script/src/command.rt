@@ -80,7 +80,7 @@ pub fn is_skipped(line: &[u8]) -> bool
 }
 
 /// The numbers of a `format`, which alone is due while no world is made.
-pub(crate) fn read_format(words: &[&[u8]]) -> Result<GeometryNumbers, ScriptFaultKind>
+pub fn read_format(words: &[&[u8]]) -> Result<GeometryNumbers, ScriptFaultKind>
     ensures { result ≡ format_of (texts words.now) }
 {
     match Head::named(words)? {

@@ -5,9 +5,11 @@
 //! their lines by `player`, their commands by `command`, and the texts of answers by `text`.
 #![tactic(auto)]
 
-mod act;
+pub mod act;
+mod answers;
 mod asked;
 mod call;
+mod called;
 pub mod command;
 mod counted;
 mod echo;
@@ -15,29 +17,28 @@ pub mod fault;
 pub mod feed;
 mod field;
 mod format;
-mod json;
-mod json_act;
-mod json_book;
-mod json_log;
-mod json_world;
 pub mod look;
 pub mod outbox;
 mod outcome;
 pub mod player;
 mod script;
 mod send;
+mod teller;
 pub mod text;
 mod trace;
-mod traced_words;
 mod trees;
 pub mod word;
 
+pub use answers::Answers;
+pub use asked::Asked;
+pub use called::call_text;
 pub use counted::{CountedRead, CountedWrite, ReadCounter, ReadFailed, WriteCounter, WriteFailed};
-pub use echo::Echo;
+pub use echo::{Echo, Telling, push_echo_by};
 pub use outcome::{Outcome, exit_code, fault_line};
 pub use script::{
     echo_counted_and_leave, play, play_and_leave, play_counted, play_counted_and_leave,
-    play_echoed_and_leave, trace_and_leave, trace_counted_and_leave, trace_json_and_leave,
-    trace_json_counted_and_leave,
+    play_echoed_and_leave,
 };
+pub use teller::{CommandTeller, LineTeller};
 pub use text::fault_text;
+pub use trace::Trace;

@@ -13,14 +13,14 @@ ghost use Rattle.nv_script.specs.Play.{Ends, failed_reads, failed_writes};
 ghost use Rattle.nv_script.specs.Results.{AnswersBehind, AnswersLine, AtLineBy, HoldsNone, TakesLine, TurnIs, ending_of, failed_in_line, is_line};
 ghost use Rattle.nv_script.specs.Trace.{head_by, player_by};
 
-use crate::act::play_in_form;
+use crate::answers::Answers;
 use crate::counted::{CountedRead, CountedWrite, WriteFailed};
 use crate::echo::{Echo, Telling, make_head};
 use crate::fault::LineFault;
 use crate::feed::{Feed, LineResult, MAX_LINE_BYTES};
 use crate::look::look_at;
 use crate::outbox::Outbox;
-use crate::trace::Trace;
+use crate::teller::LineTeller;
 use nv_base::{Fault, ScriptFaultKind};
 use nv_core::World;
 use std::alloc::{AllocError, Global};
@@ -62,12 +62,12 @@ impl Player {
         })
     }
 
-    /// Plays a script. All of its text is written then, except where a write fails.
-    pub(crate) fn play<R: CountedRead, W: CountedWrite>(
+    /// Plays a script, and tells it in the form of the teller. All of its text is written then, except where a write fails.
+    pub fn play<T: LineTeller, R: CountedRead, W: CountedWrite>(
         &mut self,
+        teller: &T,
         alloc: Global,
         echo: Echo,
-        trace: Trace,
         reader: &mut R,
         writer: &mut W,
     ) -> Result<(), Fault>
@@ -76,7 +76,7 @@ impl Player {
         requires world { self.old.world ≡ None }
         requires reads { R.failed reader.old < 2 ^ 64 - 1 }
         requires writes { W.failed writer.old < 2 ^ 64 - 1 }
-        ensures script { Ends (player_by trace (head_by trace echo)) result
+        ensures script { Ends (player_by T.form (head_by T.form echo)) result
             (R.remaining reader.old) (R.remaining reader.new)
             (λ text. Appends (W.contents writer.old) (W.contents writer.new) text) }
         ensures reads { R.failed reader.new ≡ R.failed reader.old + failed_reads result }
@@ -84,16 +84,16 @@ impl Player {
         ensures same_reader { R.place reader.new ≡ R.place reader.old }
         ensures same_writer { W.place writer.new ≡ W.place writer.old }
     {
-        let outcome = self.play_lines(alloc, echo, trace, reader, writer);
+        let outcome = self.play_lines(teller, alloc, echo, reader, writer);
         self.outbox.end(writer, outcome)
     }
 
     /// Plays all lines. Of their text, the last may still be gathered, except where a read or a write failed.
-    fn play_lines<R: CountedRead, W: CountedWrite>(
+    fn play_lines<T: LineTeller, R: CountedRead, W: CountedWrite>(
         &mut self,
+        teller: &T,
         alloc: Global,
         echo: Echo,
-        trace: Trace,
         reader: &mut R,
         writer: &mut W,
     ) -> Result<(), Fault>
@@ -102,7 +102,7 @@ impl Player {
         requires world { self.old.world ≡ None }
         requires reads { R.failed reader.old < 2 ^ 64 - 1 }
         requires writes { W.failed writer.old < 2 ^ 64 - 1 }
-        ensures script { Ends (player_by trace (head_by trace echo)) result
+        ensures script { Ends (player_by T.form (head_by T.form echo)) result
             (R.remaining reader.old) (R.remaining reader.new) (λ text. WritesFront (W.contents writer.old) (W.contents writer.new)
             text self.new.outbox) }
         ensures unheld { HoldsNone result self.new.outbox }
@@ -112,7 +112,7 @@ impl Player {
         ensures same_writer { W.place writer.new ≡ W.place writer.old }
     {
         for number in 1..=MAX_LINES + 1 {
-            if !self.turn(alloc, echo, trace, number, reader, writer)? {
+            if !self.turn(teller, alloc, echo, number, reader, writer)? {
                 return Ok(());
             }
         }
@@ -121,11 +121,11 @@ impl Player {
     }
 
     /// Plays the line of this number, and says whether there is one.
-    fn turn<R: CountedRead, W: CountedWrite>(
+    fn turn<T: LineTeller, R: CountedRead, W: CountedWrite>(
         &mut self,
+        teller: &T,
         alloc: Global,
         echo: Echo,
-        trace: Trace,
         number: u64,
         reader: &mut R,
         writer: &mut W,
@@ -135,9 +135,9 @@ impl Player {
         requires writes { W.failed writer.old < 2 ^ 64 - 1 }
         ensures turn { (input old : Option (List ℕ)) (m : Option machine.World)
             → ShowsAny self.old.world m
-            → AtLineBy trace (head_by trace echo) input (prepend_known self.old.feed (R.remaining reader.old))
+            → AtLineBy T.form (head_by T.form echo) input (prepend_known self.old.feed (R.remaining reader.old))
             old (W.contents writer.old) self.old.outbox number m
-            → TurnIs trace (head_by trace echo) result input (R.remaining reader.new)
+            → TurnIs T.form (head_by T.form echo) result input (R.remaining reader.new)
             (prepend_known self.new.feed (R.remaining reader.new))
             old (W.contents writer.new) self.new.outbox number self.new.world }
         ensures reads { R.failed reader.new ≡ R.failed reader.old + failed_reads result }
@@ -148,7 +148,7 @@ impl Player {
         if !self.take(number, reader, writer)? {
             return Ok(false);
         }
-        match self.play_told(alloc, echo, trace, number, writer) {
+        match self.play_told(teller, alloc, echo, number, writer) {
             Ok(()) => Ok(true),
             Err(fault) => Err(ending_of(number, fault)),
         }
@@ -186,16 +186,16 @@ impl Player {
     }
 
     /// Plays the line that was taken last, which has this number, and gathers its text.
-    fn play_told<W: CountedWrite>(
+    fn play_told<T: LineTeller, W: CountedWrite>(
         &mut self,
+        teller: &T,
         alloc: Global,
         echo: Echo,
-        trace: Trace,
         number: u64,
         writer: &mut W,
     ) -> Result<(), LineFault>
         requires { W.failed writer.old < 2 ^ 64 - 1 }
-        ensures line { AnswersBehind trace number (head_by trace echo number self.old.line.items) result
+        ensures line { AnswersBehind T.form number (head_by T.form echo number self.old.line.items) result
             (record { written = W.contents writer.old; gathered = self.old.outbox })
             (record { written = W.contents writer.new; gathered = self.new.outbox })
             self.old.world self.old.line.items self.new.world }
@@ -211,13 +211,21 @@ impl Player {
             world,
             ..
         } = self;
-        make_head(trace, echo, number, line.as_slice(), head)?;
+        make_head(teller, echo, number, line.as_slice(), head)?;
         let telling = Telling {
             number,
-            trace,
             head: head.as_slice(),
         };
-        answer_line(alloc, world, line.as_slice(), telling, text, outbox, writer)
+        answer_line(
+            teller,
+            alloc,
+            world,
+            line.as_slice(),
+            telling,
+            text,
+            outbox,
+            writer,
+        )
     }
 
     /// Plays the line that was taken last, and gathers its text.
@@ -243,7 +251,16 @@ impl Player {
             ..
         } = self;
         let telling = Telling::answers();
-        answer_line(alloc, world, line.as_slice(), telling, text, outbox, writer)
+        answer_line(
+            &Answers,
+            alloc,
+            world,
+            line.as_slice(),
+            telling,
+            text,
+            outbox,
+            writer,
+        )
     }
 
     /// Plays the line that was taken last, and gathers its text, where it has no fault. Else its fault is told, and nothing has changed.
@@ -299,13 +316,14 @@ impl Player {
             ..
         } = self;
         let telling = Telling::answers();
-        answer_line(alloc, world, line, telling, text, outbox, writer)
+        answer_line(&Answers, alloc, world, line, telling, text, outbox, writer)
     }
 }
 
 /// Plays a line, and gathers what stands before its answers, which a line that is skipped has none of, and its answers, for which
 /// there is room in `text`.
-fn answer_line<W: CountedWrite>(
+fn answer_line<T: LineTeller, W: CountedWrite>(
+    teller: &T,
     alloc: Global,
     world: &mut Option<World>,
     line: &[u8],
@@ -316,14 +334,14 @@ fn answer_line<W: CountedWrite>(
 ) -> Result<(), LineFault>
     requires skipped { is_skipped line.now ≡ true → telling.head.now ≡ [] }
     requires failures { W.failed writer.old < 2 ^ 64 - 1 }
-    ensures line { AnswersBehind telling.entry.trace telling.entry.number telling.entry.head.now result
+    ensures line { AnswersBehind T.form telling.entry.number telling.entry.head.now result
         (record { written = W.contents writer.old; gathered = outbox.old })
         (record { written = W.contents writer.new; gathered = outbox.new })
         world.old line.now world.new }
     ensures failed { W.failed writer.new ≡ W.failed writer.old + failed_in_line result }
     ensures same_writer { W.place writer.new ≡ W.place writer.old }
 {
-    play_in_form(alloc, world, line, telling, text, outbox, writer)?;
+    teller.play_line(alloc, world, line, telling, text, outbox, writer)?;
     let Ok(()) = outbox.add(writer, text.as_slice()) else {
         return Err(LineFault::Write);
     };

@@ -59,7 +59,7 @@ fn push_bracketed(out: &mut Vec<u8>, text: &[u8]) -> Result<(), AllocError>
 }
 
 /// Adds the line of a refusal.
-pub(crate) fn push_refused(out: &mut Vec<u8>, fault: &Fault) -> Result<(), AllocError>
+pub fn push_refused(out: &mut Vec<u8>, fault: &Fault) -> Result<(), AllocError>
     ensures { OnOk result (out.new.items ≡ out.old.items ++ refused_line fault.now) }
 {
     out.extend_from_slice(b"refused ")?;
@@ -68,7 +68,7 @@ pub(crate) fn push_refused(out: &mut Vec<u8>, fault: &Fault) -> Result<(), Alloc
 }
 
 /// Adds a number behind a label.
-pub(crate) fn push_labelled(out: &mut Vec<u8>, label: &[u8], number: u64) -> Result<(), AllocError>
+pub fn push_labelled(out: &mut Vec<u8>, label: &[u8], number: u64) -> Result<(), AllocError>
     ensures { OnOk result (out.new.items ≡ out.old.items ++ (label.now ++ decimal number)) }
 {
     out.extend_from_slice(label)?;
@@ -89,7 +89,7 @@ fn push_counted_bytes(out: &mut Vec<u8>, bytes: &[u8]) -> Result<(), AllocError>
 }
 
 /// Adds a handle.
-pub(crate) fn push_handle(out: &mut Vec<u8>, handle: &Handle) -> Result<(), AllocError>
+pub fn push_handle(out: &mut Vec<u8>, handle: &Handle) -> Result<(), AllocError>
     ensures { OnOk result (out.new.items ≡ out.old.items ++ handle_text handle.now) }
 {
     push_number(out, handle.ino.number())?;
@@ -208,7 +208,7 @@ fn push_done(out: &mut Vec<u8>, answer: &Answer) -> Result<(), AllocError>
 }
 
 /// Adds the line of a reply.
-pub(crate) fn push_reply(out: &mut Vec<u8>, reply: &Reply) -> Result<(), AllocError>
+pub fn push_reply(out: &mut Vec<u8>, reply: &Reply) -> Result<(), AllocError>
     ensures { OnOk result
         (out.new.items ≡ out.old.items ++ told_line (told_by reply.now)) }
 {
@@ -282,7 +282,7 @@ pub(crate) fn push_node(out: &mut Vec<u8>, path: &[Name], node: &NodeCopy) -> Re
 }
 
 /// Adds the lines of nodes.
-pub(crate) fn push_nodes(out: &mut Vec<u8>, nodes: &[TreeNode]) -> Result<(), AllocError>
+pub fn push_nodes(out: &mut Vec<u8>, nodes: &[TreeNode]) -> Result<(), AllocError>
     ensures { OnOk result (out.new.items ≡ out.old.items ++ flat_map node_line nodes.now) }
 {
     for node in nodes {

@@ -246,7 +246,7 @@ pub fn text(alloc: Global, word: &[u8]) -> Result<Option<Bytes>, AllocError>
 }
 
 /// A lower-case hexadecimal digit.
-pub(crate) fn hex_digit(value: u8) -> u8
+pub fn hex_digit(value: u8) -> u8
     requires { value < 16 }
     ensures { result ≡ digit_glyph false value }
 {

@@ -15,7 +15,7 @@ const VERSION: &str = "0.1.0";
 
 const ABOUT: &str = "The core of a file system for persistent memory, driven by scripts";
 
-pub(crate) const AFTER_HELP: &str = "\
+const AFTER_HELP: &str = "\
 Try 'novacore play --help' for what a script is, with one of three lines to begin with,
 'novacore trace --help' for the steps that it makes, and 'novacore work --help' for scripts that
 threads play.
@@ -26,7 +26,7 @@ const PLAY: &str = "play";
 
 const PLAY_ABOUT: &str = "Play a script, and print what each of its lines is answered";
 
-pub(crate) const PLAY_AFTER_HELP: &str = "\
+const PLAY_AFTER_HELP: &str = "\
 A script is read line by line, and a line is one command. The first makes an empty file system in
 memory, and the others make calls of its actors or report on it. Empty lines and lines that begin
 with # are skipped. To begin with, save these three lines as first.nova:
@@ -77,7 +77,7 @@ const TRACE: &str = "trace";
 
 const TRACE_ABOUT: &str = "Play a script, and print each step that its calls make";
 
-pub(crate) const TRACE_AFTER_HELP: &str = "\
+const TRACE_AFTER_HELP: &str = "\
 A script is played as by 'novacore play', and before the answer to a line stands a line for each
 event that it makes, behind two spaces. A call that starts is '  LINE ACTOR CALL start', and a step
 of it '  LINE ACTOR CALL STEP [AT] REPLY': the step's name, its inode slot, CPU or directory, and
@@ -118,7 +118,7 @@ const WORK: &str = "work";
 
 const WORK_ABOUT: &str = "Play a script whose calls threads make, and print what they are answered";
 
-pub(crate) const WORK_AFTER_HELP: &str = "\
+const WORK_AFTER_HELP: &str = "\
 A script for threads has a line 'fork'. The lines before it are played as by 'novacore play'. Behind
 it stand 'do' lines and comments alone, and all are read before a thread starts. Thread T makes the
 calls of the actors whose number is T modulo the number of threads, in their order. Cleaners go

@@ -8,8 +8,6 @@ mod command_line;
 mod crowd;
 mod progress;
 mod terminal;
-#[cfg(test)]
-mod tests;
 mod told;
 mod watched;
 
@@ -79,7 +77,7 @@ fn answered<R: Print + Eprint>(rt: &R, error: &clap::Error) -> Outcome
 
 /// Which of the standard streams are a terminal.
 #[derive(Clone, Copy)]
-pub(crate) struct Terminals {
+struct Terminals {
     input: bool,
     output: bool,
     error: bool,

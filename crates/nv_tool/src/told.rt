@@ -13,10 +13,8 @@ use crate::progress::Progress;
 use crate::watched::{WatchedReader, WatchedWriter};
 use nv_base::Fault;
 use nv_hints::{By, KeptReader, Recent, Tally, TallyWriter, hint_line, push_summary};
-use nv_script::{
-    Echo, Outcome, WriteCounter, echo_counted_and_leave, play_counted_and_leave,
-    trace_counted_and_leave, trace_json_counted_and_leave,
-};
+use nv_script::{Echo, Outcome, WriteCounter, echo_counted_and_leave, play_counted_and_leave};
+use nv_trace::{trace_counted_and_leave, trace_json_counted_and_leave};
 use nv_work::{OpenGate, work_counted};
 use std::alloc::{AllocError, Global};
 use std::io::{Read, Write};

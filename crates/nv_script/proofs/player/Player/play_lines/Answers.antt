@@ -11,7 +11,7 @@ loop-number-init g c = record {
   number = omega arith;
   line = (
     None,
-    at_first c.args.trace (head_by c.args.trace c.args.echo) _ _ _ _ _ (none_ahead _ _ c.requires.ahead) c.requires.gathered refl,
+    at_first g.T.LineTeller.form (head_by g.T.LineTeller.form c.args.echo) _ _ _ _ _ (none_ahead _ _ c.requires.ahead) c.requires.gathered refl,
     subst (λ (w : Option WorldState). ShowsAny w None) (sym c.requires.world) tt,
   );
   reads = refl;

@@ -10,7 +10,7 @@ abbrev pub invariant-loop-number : goal.invariant-loop-number
 invariant-loop-number g l = record {
   number : l.number ≤ 1048577;
   line : (m : Option World)
-      × AtLineBy l.trace (head_by l.trace l.echo) (g.R.CountedRead.remaining l.fn.reader) (prepend_known l.self.feed (g.R.CountedRead.remaining l.reader))
+      × AtLineBy g.T.LineTeller.form (head_by g.T.LineTeller.form l.echo) (g.R.CountedRead.remaining l.fn.reader) (prepend_known l.self.feed (g.R.CountedRead.remaining l.reader))
       (g.W.CountedWrite.contents l.fn.writer) (g.W.CountedWrite.contents l.writer) l.self.outbox l.number m
       × ShowsAny l.self.world m;
   reads : g.R.CountedRead.failed l.reader ≡ g.R.CountedRead.failed l.fn.reader;

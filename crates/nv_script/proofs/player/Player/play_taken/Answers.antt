@@ -1,4 +1,4 @@
-use Rattle.std.proofs.Common.{[]}
+use Rattle.std.proofs.Common.{[], refl}
 use Rattle.nv_script.specs.declared.trace.Trace.TheVariants as trace
 use Rattle.nv_script.proofs.Endings.{answers_at, told_off}
 use Rattle.nv_script.proofs.player.Player.play_taken.Goals as goal
@@ -8,5 +8,5 @@ returns-clause-line g c =
     let telling = c.answers-telling.result in
     let told = c.answers-telling.ensures in
     answers_at trace.Off 0 [] c.answer_line.result _ _ _ _ _ _ c.as_slice.ensures.value
-    (told_off telling.trace telling.number telling.head.now c.answer_line.result _ _ _ _ _ told.trace told.number told.head
+    (told_off trace.Off telling.number telling.head.now c.answer_line.result _ _ _ _ _ refl told.number told.head
     c.answer_line.ensures.line)

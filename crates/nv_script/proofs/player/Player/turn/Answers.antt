@@ -20,18 +20,18 @@ pub returns-in-Err-clause-turn : goal.returns-in-Err-clause-turn
 returns-in-Err-clause-turn g c = λ input old m shown at.
     let took = rw c.if-not-branch.false at c.in_ok-take.ensures.taken in
     let now = written_on _ _ _ _ _ _ _ c.requires.number at _ _ took.0 in
-    let why = c.in-Err.ensures.line m (rw c.take.ensures.world shown) (plays_run_by c.args.trace (head_by c.args.trace c.args.echo) at.lines at.text m at.plays) in
-    ends_told c.args.trace (head_by c.args.trace c.args.echo) _ _ _ _ _ _ c.ending_of.ensures (
+    let why = c.in-Err.ensures.line m (rw c.take.ensures.world shown) (plays_run_by g.T.LineTeller.form (head_by g.T.LineTeller.form c.args.echo) at.lines at.text m at.plays) in
+    ends_told g.T.LineTeller.form (head_by g.T.LineTeller.form c.args.echo) _ _ _ _ _ _ c.ending_of.ensures (
       not_played _ _ _ _ _ _ _ c.requires.number now _ _ took.2 took.3
           (g.R.CountedRead.remaining c.take.new.reader) _ _ took.1 why,
-      line_held c.args.trace _ c.args.number _ _ _ _ _ why,
+      line_held g.T.LineTeller.form _ c.args.number _ _ _ _ _ why,
     )
 
 pub returns-in-Ok-clause-turn : goal.returns-in-Ok-clause-turn
 returns-in-Ok-clause-turn g c = λ input old m shown at.
     let took = rw c.if-not-branch.false at c.in_ok-take.ensures.taken in
     let now = written_on _ _ _ _ _ _ _ c.requires.number at _ _ took.0 in
-    let led = c.in-Ok.ensures.line m (rw c.take.ensures.world shown) (plays_run_by c.args.trace (head_by c.args.trace c.args.echo) at.lines at.text m at.plays) in
+    let led = c.in-Ok.ensures.line m (rw c.take.ensures.world shown) (plays_run_by g.T.LineTeller.form (head_by g.T.LineTeller.form c.args.echo) at.lines at.text m at.plays) in
     rw c.play_told.ensures.feed (
       took.1,
       led.0,

@@ -1,0 +1,11 @@
+pub mod ActingTraced
+pub mod AnswerLines
+pub mod WithoutEvents
+pub mod JsonActs
+pub mod JsonParts
+pub mod JsonWorlds
+pub mod LeftParts
+pub mod Pushes
+pub mod StepsTold
+pub mod TracedEnds
+pub mod Tracing
