@@ -1,0 +1,4 @@
+pub mod Calls
+pub mod Fields
+pub mod Fronts
+pub mod Records
