@@ -1,5 +1,5 @@
-//! What the tests of the libraries start from: geometries, ids and handles by their numbers, logs by lines, and the
-//! logs of the worked examples.
+//! What the tests of the libraries start from: geometries, ids and handles by their numbers, and logs by
+//! lines.
 //!
 //! No library stands on this crate but tests alone. What may end a test's process stands in the crates of tests,
 //! since a library may not.
@@ -8,7 +8,6 @@
 mod ids;
 pub mod logs;
 mod memory;
-pub mod rows;
 
 pub use ids::{Row, below, crosses_threads, geometry, handle, handle_of, id, next_number, numbers};
 pub use memory::{want_of_memory, wants_memory};

@@ -7,5 +7,4 @@
 
 pub mod growths;
 pub mod sources;
-pub mod updates;
 pub mod words;

@@ -1,29 +1,18 @@
-//! The tests of the libraries from `nv_base` to `nv_journal` that know no cell, a module for each: worked examples,
-//! each call that takes memory once with ample memory, and what no contract says.
+//! The tests of the libraries from `nv_base` to `nv_book` that know no cell: what no contract says of them.
 //!
-//! They stand in a crate of their own since a crate with tests is proved twice. What they start from is in `nv_scenes`
-//! and `device`, and how they compare in `compare`.
+//! They stand in a crate of their own since a crate with tests is proved twice. What they start from is in `nv_scenes`, and
+//! how they compare in `compare`.
 #![tactic(auto)]
 
 #[cfg(test)]
-mod base;
-#[cfg(test)]
-mod blocks;
-#[cfg(test)]
-mod chain;
-#[cfg(test)]
 mod compare;
 #[cfg(test)]
-mod device;
+mod limits;
 #[cfg(test)]
-mod entry;
+mod memory;
 #[cfg(test)]
-mod file_index;
+mod runs;
 #[cfg(test)]
-mod homes;
+mod sends;
 #[cfg(test)]
-mod journal;
-#[cfg(test)]
-mod name_index;
-#[cfg(test)]
-mod snapshots;
+mod texts;

@@ -211,6 +211,7 @@ const ROWS: [(&str, Row); 3] = [
     ("a rename over a file", TREE_BY_SETTLED_LOGS),
 ];
 
+/// A reader and a writer that fail at each of their calls leave all answers before, once: a clause lets it be any front.
 #[test]
 fn devices_fail_at_each_call(rt: HostRuntime) -> Result<(), Fail> {
     for (name, row) in ROWS {

@@ -19,6 +19,7 @@ fn is_faulty<R: AllocGlobal + Abort>(
     Ok(())
 }
 
+/// A line with each fault ends the script by that fault, worked out by hand.
 #[test]
 fn lines_have_their_faults(rt: HostRuntime) -> Result<(), Fail> {
     for (line, kind) in SECOND_LINES {
@@ -89,6 +90,7 @@ const ENDED: &[(&str, &str, &str, u64, ScriptFaultKind)] = &[
     ),
 ];
 
+/// The worked rows of events and of numbers out of range end by the fault of their last line.
 #[test]
 fn last_lines_have_their_faults(rt: HostRuntime) -> Result<(), Fail> {
     for (front, text, line, number, kind) in ENDED {
@@ -117,6 +119,7 @@ const MANY: &[Behind] = &[
     (b'\n', 1_048_576, "", PAST),
 ];
 
+/// The longest line and the last line are taken, and those past them are faults: worked out by hand.
 #[test]
 fn long_lines_and_many_lines(rt: HostRuntime) -> Result<(), Fail> {
     for (byte, count, end, outcome) in MANY {

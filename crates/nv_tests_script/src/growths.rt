@@ -3,20 +3,17 @@
 //! the line, given again, has its answer; a call that was refused on its way is made again by `do`. The rest of the row goes on
 //! from there. `tools/refused-growths` loads what refuses, and sweeps each row of a folder so. Without it each line is played once.
 
-use crate::cleaners::{A_KILLER_IS_CLEANED_AWAY, DEVICE_FULL, FAST_CLEANING_REPEATED};
 use crate::cleaners_beside::A_DRAIN_OF_ITS_FILE_MEANWHILE;
 use crate::compare::{same_for, same_text, shown};
 use crate::pieces::ending;
 use crate::playing::{Playing, word};
 use crate::reports::Reports;
-use crate::snapshots::{
-    A_RECORD_MOVES_DOWN, A_WRITE_ACROSS_A_SNAPSHOT, BORN_AND_DEAD_IN_ONE_EPOCH, SNAPSHOT_REFUSALS,
-};
+use crate::snapshots::A_WRITE_ACROSS_A_SNAPSHOT;
 use crate::told::{
     Told, answers_as_told, goes_on, has_other_call, has_stopped, is_told, started_last, told_of,
 };
 use crate::twins::{beside_a_twin, stops_as_told};
-use crate::worked::{CUT_THEN_GROWN, NAMES, PARTIAL_AT_BOTH_ENDS, Row, TREE_BY_SETTLED_LOGS};
+use crate::worked::{Row, TREE_BY_SETTLED_LOGS};
 use nv_base::Fault;
 use nv_refuser::{Tally, refuse, refuse_rest};
 use std::alloc::Global;
@@ -25,40 +22,6 @@ use std::process::Abort;
 use std::test::Fail;
 
 const REFUSED: &[u8] = b"refused E1 OutOfMemory\n";
-
-/// A tree of three levels, now and of a snapshot: where memory is refused past its first node, the script ends behind
-/// whole lines of it.
-const TREE_OF_THREE_LEVELS: Row = (
-    "format blocks=16 cpus=2 block=4 page=4 inodes=8 snaps=4 actors=3\n\
-     do 0 mkdir 0.1 d 493\n\
-     do 0 mkdir 1.1 e 493\n\
-     do 0 create 2.1 x 420\n\
-     do 0 write 3.1 0 abcde\n\
-     do 0 create 0.1 y 420\n\
-     do 0 snap\n\
-     do 0 unlink 0.1 y\n\
-     tree\n\
-     stree 1\n",
-    "formatted\n\
-     done 1.1\n\
-     done 2.1\n\
-     done 3.1\n\
-     done 5\n\
-     done 4.1\n\
-     done 1\n\
-     done\n\
-     / d 493\n\
-     /d d 493\n\
-     /d/e d 493\n\
-     /d/e/x f 420 5 abcde\n\
-     end\n\
-     / d 493\n\
-     /d d 493\n\
-     /d/e d 493\n\
-     /d/e/x f 420 5 abcde\n\
-     /y f 420 0\n\
-     end\n",
-);
 
 /// Plays a row to each of its lines, and has each growth of that line refused; then whole.
 pub fn sweep<R: AllocGlobal + Abort + Print>(
@@ -283,65 +246,13 @@ fn sweep_row<R: AllocGlobal + Abort + Print>(rt: &R, name: &str, row: Row) -> Re
     sweep(rt, name, row.0.as_bytes(), row.1.as_bytes())
 }
 
-#[test]
-fn partial_at_both_ends_with_one_refused_growth(rt: HostRuntime) -> Result<(), Fail> {
-    sweep_row(&rt, "partial_at_both_ends", PARTIAL_AT_BOTH_ENDS)
-}
-
-#[test]
-fn cut_then_grown_with_one_refused_growth(rt: HostRuntime) -> Result<(), Fail> {
-    sweep_row(&rt, "cut_then_grown", CUT_THEN_GROWN)
-}
-
-#[test]
-fn names_with_one_refused_growth(rt: HostRuntime) -> Result<(), Fail> {
-    sweep_row(&rt, "names", NAMES)
-}
-
-#[test]
-fn a_tree_of_three_levels_with_one_refused_growth(rt: HostRuntime) -> Result<(), Fail> {
-    sweep_row(&rt, "a_tree_of_three_levels", TREE_OF_THREE_LEVELS)
-}
-
-#[test]
-fn a_record_moves_down_with_one_refused_growth(rt: HostRuntime) -> Result<(), Fail> {
-    sweep_row(&rt, "a_record_moves_down", A_RECORD_MOVES_DOWN)
-}
-
-#[test]
-fn born_and_dead_in_one_epoch_with_one_refused_growth(rt: HostRuntime) -> Result<(), Fail> {
-    sweep_row(
-        &rt,
-        "born_and_dead_in_one_epoch",
-        BORN_AND_DEAD_IN_ONE_EPOCH,
-    )
-}
-
-#[test]
-fn snapshot_refusals_with_one_refused_growth(rt: HostRuntime) -> Result<(), Fail> {
-    sweep_row(&rt, "snapshot_refusals", SNAPSHOT_REFUSALS)
-}
-
-#[test]
-fn a_killer_is_cleaned_away_with_one_refused_growth(rt: HostRuntime) -> Result<(), Fail> {
-    sweep_row(&rt, "a_killer_is_cleaned_away", A_KILLER_IS_CLEANED_AWAY)
-}
-
-#[test]
-fn fast_cleaning_repeated_with_one_refused_growth(rt: HostRuntime) -> Result<(), Fail> {
-    sweep_row(&rt, "fast_cleaning_repeated", FAST_CLEANING_REPEATED)
-}
-
-#[test]
-fn a_full_device_with_one_refused_growth(rt: HostRuntime) -> Result<(), Fail> {
-    sweep_row(&rt, "a_full_device", DEVICE_FULL)
-}
-
+/// Each growth of a row with a snapshot is refused in turn: the line, given again, has its answer.
 #[test]
 fn a_write_under_a_snapshot_with_one_refused_growth(rt: HostRuntime) -> Result<(), Fail> {
     sweep_row(&rt, "a_write_under_a_snapshot", A_WRITE_ACROSS_A_SNAPSHOT)
 }
 
+/// The same of a row whose drain and cleaner are on their way at once.
 #[test]
 fn a_drain_beside_a_cleaner_with_one_refused_growth(rt: HostRuntime) -> Result<(), Fail> {
     sweep_row(
@@ -351,6 +262,7 @@ fn a_drain_beside_a_cleaner_with_one_refused_growth(rt: HostRuntime) -> Result<(
     )
 }
 
+/// The same of a row whose rename is a commit of three inodes.
 #[test]
 fn a_rename_over_a_file_with_one_refused_growth(rt: HostRuntime) -> Result<(), Fail> {
     sweep_row(&rt, "a_rename_over_a_file", TREE_BY_SETTLED_LOGS)

@@ -3,7 +3,7 @@
 use crate::compare::{same, same_for};
 use nv_base::{Fault, ScriptFaultKind};
 use nv_refuser::{Tally, refuse};
-use nv_script::trace_json_and_leave;
+use nv_trace::trace_json_and_leave;
 use std::alloc::{AllocError, Global};
 use std::process::Abort;
 
@@ -101,6 +101,7 @@ fn told(alloc: Global, script: &str) -> (Result<(), Fault>, Vec<u8>) {
     (ended, written)
 }
 
+/// A trace of the first script as JSON, worked out by hand.
 #[test]
 fn the_first_script_as_json(rt: HostRuntime) {
     let (ended, written) = told(rt.alloc(), FIRST);
@@ -108,6 +109,7 @@ fn the_first_script_as_json(rt: HostRuntime) {
     same(&rt, written.as_slice(), FIRST_TOLD.as_bytes());
 }
 
+/// A trace as JSON of a reader that waits, worked out by hand.
 #[test]
 fn a_step_that_waits_has_no_parts(rt: HostRuntime) {
     let (ended, written) = told(rt.alloc(), WAITING);
@@ -123,6 +125,7 @@ fn a_step_that_waits_has_no_parts(rt: HostRuntime) {
     );
 }
 
+/// A name is quoted as JSON is: text that was worked out by hand.
 #[test]
 fn a_name_is_quoted(rt: HostRuntime) {
     let (ended, written) = told(rt.alloc(), NAMED);
@@ -136,6 +139,7 @@ fn a_name_is_quoted(rt: HostRuntime) {
     }
 }
 
+/// A writer that takes no more ends the trace by `E29` behind a front.
 #[test]
 fn an_output_without_room_for_json(rt: HostRuntime) {
     let mut room = [0u8; 15];
@@ -177,6 +181,7 @@ fn next_line(text: &str) -> &str {
     text.lines().next().unwrap_or("")
 }
 
+/// Each growth of a trace as JSON is refused in turn, and no line is cut in two: a clause lets it be any front.
 #[test]
 fn the_first_script_with_one_refused_growth(rt: HostRuntime) -> Result<(), AllocError> {
     let mut tally = Tally::new();

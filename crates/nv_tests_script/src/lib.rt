@@ -1,4 +1,5 @@
-//! The tests of scripts: lines, words and whole scripts with their ends. What scripts write comes from worked examples.
+//! The tests of scripts: worked rows, texts, faults of lines, and readers and writers that fail. What scripts write was worked out by
+//! hand.
 //!
 //! They stand in a crate of their own since a crate with tests is proved twice. How they compare is in `compare`.
 #![tactic(auto)]
@@ -20,15 +21,9 @@ mod growths;
 #[cfg(test)]
 mod json;
 #[cfg(test)]
-mod lines;
-#[cfg(test)]
-mod looked;
-#[cfg(test)]
 mod pieces;
 #[cfg(test)]
 mod playing;
-#[cfg(test)]
-mod replayed;
 #[cfg(test)]
 mod reports;
 #[cfg(test)]
@@ -45,7 +40,5 @@ mod told;
 mod traced;
 #[cfg(test)]
 mod twins;
-#[cfg(test)]
-mod words;
 #[cfg(test)]
 mod worked;

@@ -91,10 +91,3 @@ pub fn play_in_pieces(
     let outcome = ending(alloc, &mut reader, &mut writer);
     (outcome, writer.inner)
 }
-
-/// The same; how it ends, and how many reads and writes failed.
-pub fn count_in_pieces(alloc: Global, script: &[u8], reads: Pace, writes: Pace) -> Counts {
-    let mut reader = at_pace(script, reads);
-    let mut writer = at_pace(Vec::new(alloc), writes);
-    counted_ending(alloc, &mut reader, &mut writer)
-}

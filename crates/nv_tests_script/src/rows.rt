@@ -1,7 +1,7 @@
 //! Scripts, lines and faults, each with what comes of it.
 
 use crate::worked::Row;
-use nv_base::{Fault, GeometryField, ImageFault, MismatchPart, ScriptFaultKind};
+use nv_base::ScriptFaultKind;
 
 /// Scripts with what they write.
 pub const SCRIPTS: [Row; 11] = [
@@ -364,20 +364,4 @@ pub const FIRST_LINES: &[(&str, u64, ScriptFaultKind)] = &[
         ScriptFaultKind::Number,
     ),
     ("\n#", 2, ScriptFaultKind::Unended),
-];
-
-/// Faults with their texts, without want of memory.
-pub const FAULTS: &[(Fault, &str)] = &[
-    (
-        Fault::BadGeometry(GeometryField::Cpus),
-        "E2 BadGeometry(cpus)",
-    ),
-    (Fault::NoSpace, "E13 NoSpace"),
-    (Fault::Mismatch(MismatchPart::Lists), "E24 Mismatch(lists)"),
-    (Fault::BadImage(ImageFault::Chain), "E26 BadImage(chain)"),
-    (
-        Fault::ScriptFault(ScriptFaultKind::Word, 12),
-        "E27 ScriptFault(12, word)",
-    ),
-    (Fault::Write, "E29 Write"),
 ];

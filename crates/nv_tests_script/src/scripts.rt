@@ -1,15 +1,13 @@
 //! Whole scripts, and what they write.
 
 use crate::cleaners::OF_CLEANERS;
-use crate::compare::{same, same_for};
-use crate::pieces::play_in_pieces;
-use crate::rows::{FAULTS, FORMAT, SCRIPTS};
+use crate::compare::same_for;
+use crate::rows::{FORMAT, SCRIPTS};
 use crate::snapshots::OF_SNAPSHOTS;
 use crate::stops::OF_STOPS;
 use crate::worked::{Row, WORKED};
-use nv_base::{Fault, ScriptFaultKind};
-use nv_scenes::want_of_memory;
-use nv_script::{fault_line, fault_text, play, play_echoed_and_leave};
+use nv_base::Fault;
+use nv_script::play;
 use std::alloc::{AllocError, Global};
 use std::cell::Cell;
 use std::io;
@@ -52,6 +50,7 @@ fn check_all<R: AllocGlobal + Abort>(rt: &R, rows: &[Row]) {
     }
 }
 
+/// Each worked row has the text that was worked out by hand: with ample memory no call of it is refused memory.
 #[test]
 fn scripts_write_their_texts(rt: HostRuntime) -> Result<(), Fail> {
     check_all(&rt, &WORKED);
@@ -179,6 +178,7 @@ const DIALOGUE: &[(&str, &str)] = &[
     ("tree\n", "/ d 493\n/a f 420 0\nend\n"),
 ];
 
+/// At a terminal each line is answered before the next read: no clause orders reads and writes.
 #[test]
 fn each_line_is_answered_before_the_next_is_asked_for(rt: HostRuntime) -> Result<(), Fail> {
     let taken = Cell::new(0);
@@ -218,140 +218,11 @@ fn are_one_write<R: AllocGlobal + Abort>(rt: &R, rows: &[Row]) {
     }
 }
 
+/// Where no line is waited for all answers are one write: no clause counts writes.
 #[test]
 fn answers_are_one_write_where_no_line_is_waited_for(rt: HostRuntime) {
     are_one_write(&rt, &WORKED);
     are_one_write(&rt, &SCRIPTS);
     are_one_write(&rt, OF_SNAPSHOTS);
     are_one_write(&rt, OF_CLEANERS);
-}
-
-/// Fronts of texts, how many zeros follow, and their ends.
-const LONG: &[(&str, usize, &str)] = &[
-    ("formatted\ndone 1.1\ndone 1\n", 0, ""),
-    ("done 20000 ", 20_000, "\n"),
-    ("done 20000 ", 20_000, "\n"),
-    ("done 40001 ", 40_000, "a\n"),
-    ("done 1 a\n", 0, ""),
-];
-
-fn long_text(alloc: Global) -> Result<Vec<u8>, AllocError> {
-    let mut text = Vec::new(alloc);
-    for (front, zeros, end) in LONG {
-        text.extend_from_slice(front.as_bytes())?;
-        push_zeros(&mut text, *zeros)?;
-        text.extend_from_slice(end.as_bytes())?;
-    }
-    Ok(text)
-}
-
-fn push_zeros(text: &mut Vec<u8>, count: usize) -> Result<(), AllocError> {
-    for _ in 0..count {
-        text.extend_from_slice(b"%00")?;
-    }
-    Ok(())
-}
-
-/// Texts that have no room together, and one that has none alone.
-#[test]
-fn long_texts(rt: HostRuntime) -> Result<(), Fail> {
-    let script = "format blocks=64 cpus=1 block=4096 page=2 inodes=2 snaps=1 actors=1\n\
-                  do 0 create 0.1 a 420\n\
-                  do 0 write 1.1 40000 a\n\
-                  do 0 read 1.1 0 20000\n\
-                  do 0 read 1.1 0 20000\n\
-                  do 0 read 1.1 0 50000\n\
-                  do 0 read 1.1 40000 1\n";
-    check(&rt, script.as_bytes(), Ok(()), &long_text(rt.alloc())?);
-    Ok(())
-}
-
-fn come_and_go_byte_by_byte<R: AllocGlobal + Abort>(rt: &R, rows: &[Row]) {
-    let by_byte = (1, usize::MAX);
-    for (script, want) in rows {
-        let (outcome, written) = play_in_pieces(rt.alloc(), script.as_bytes(), by_byte, by_byte);
-        same_for(rt, script, outcome, Ok(()));
-        same_for(rt, script, written.as_slice(), want.as_bytes());
-    }
-}
-
-#[test]
-fn scripts_come_and_go_byte_by_byte(rt: HostRuntime) {
-    come_and_go_byte_by_byte(&rt, &WORKED);
-    come_and_go_byte_by_byte(&rt, &SCRIPTS);
-    come_and_go_byte_by_byte(&rt, OF_SNAPSHOTS);
-    come_and_go_byte_by_byte(&rt, OF_CLEANERS);
-}
-
-#[test]
-fn faults_have_their_texts(rt: HostRuntime) -> Result<(), Fail> {
-    let memory = want_of_memory(rt.alloc()).expect(&rt, "a refused growth");
-    same(
-        &rt,
-        fault_text(rt.alloc(), &memory)?.as_str(),
-        "E1 OutOfMemory",
-    );
-    for (fault, want) in FAULTS {
-        same(&rt, fault_text(rt.alloc(), fault)?.as_str(), *want);
-    }
-    Ok(())
-}
-
-#[test]
-fn a_fault_is_told_in_one_line(rt: HostRuntime) -> Result<(), Fail> {
-    for (fault, want) in [
-        (Fault::Read, "novacore: E28 Read\n"),
-        (
-            Fault::ScriptFault(ScriptFaultKind::Word, 2),
-            "novacore: E27 ScriptFault(2, word)\n",
-        ),
-    ] {
-        same(&rt, fault_line(rt.alloc(), &fault)?.as_str(), want);
-    }
-    Ok(())
-}
-
-/// A script, and what it writes with an echo: a comment and an empty line have none, nor has the line with a fault. One name in the
-/// answer to line 7 looks like the beginning of an echo.
-const ECHOED_SCRIPT: &str = "\
-# a comment
-format blocks=16 cpus=99 block=4 page=4 inodes=8 snaps=4 actors=3
-format blocks=16 cpus=2 block=4 page=4 inodes=8 snaps=4 actors=3
-
-do 0 create 0.1 > 420
-do 0 unlink 0.1 b
-do 0 list 0.1
-tree
-wrte
-";
-
-const ECHOED_ANSWERS: &str = "\
-> 2 format blocks=16 cpus=99 block=4 page=4 inodes=8 snaps=4 actors=3
-refused E2 BadGeometry(cpus)
-> 3 format blocks=16 cpus=2 block=4 page=4 inodes=8 snaps=4 actors=3
-formatted
-> 5 do 0 create 0.1 > 420
-done 1.1
-> 6 do 0 unlink 0.1 b
-refused E7 Missing
-> 7 do 0 list 0.1
-done 1
-> 1.1
-> 8 tree
-/ d 493
-/> f 420 0
-end
-";
-
-#[test]
-fn an_echo_stands_before_the_answers_to_a_command(rt: HostRuntime) {
-    let mut reader = ECHOED_SCRIPT.as_bytes();
-    let mut written = Vec::new(rt.alloc());
-    let ended = play_echoed_and_leave(rt.alloc(), &mut reader, &mut written);
-    same(
-        &rt,
-        ended,
-        Err(Fault::ScriptFault(ScriptFaultKind::Word, 9)),
-    );
-    same(&rt, written.as_slice(), ECHOED_ANSWERS.as_bytes());
 }

@@ -1,6 +1,8 @@
 //! Worked rows in which the machine stops: what scripts write, worked out by hand.
 
+use crate::scripts::check;
 use crate::worked::Row;
+use std::test::Fail;
 
 /// The rows, which end well.
 pub const OF_STOPS: &[Row] = &[
@@ -134,3 +136,39 @@ pub const OF_STOPS: &[Row] = &[
          audit ok\n",
     ),
 ];
+
+/// A rename over a file of another directory, up to its start.
+const RENAME: &str = "format blocks=16 cpus=2 block=4 page=4 inodes=8 snaps=4 actors=3\n\
+     do 0 mkdir 0.1 d 493\n\
+     do 0 mkdir 0.1 e 493\n\
+     do 0 create 1.1 x 420\n\
+     do 0 create 2.1 y 420\n\
+     do 0 write 3.1 0 new\n\
+     do 0 write 4.1 0 old\n\
+     start 0 rename 1.1 x 2.1 y\n";
+
+const STARTED: &str =
+    "formatted\ndone 1.1\ndone 2.1\ndone 3.1\ndone 4.1\ndone 3\ndone 3\nstarted\n";
+
+const OLD_TREE: &str = "/ d 493\n/d d 493\n/d/x f 420 3 new\n/e d 493\n/e/y f 420 3 old\nend\n";
+
+const NEW_TREE: &str = "/ d 493\n/d d 493\n/e d 493\n/e/y f 420 3 new\nend\n";
+
+/// Its journal is closed by this step: two looks, four locks, the check, ready, enter, three appends, open, three publishes.
+const COMMIT: u64 = 17;
+
+/// Behind that it retires three, leaves, unlocks four, gives the blocks of one CPU back, and then the number of the old file.
+const STEPS: u64 = 27;
+
+/// A stop after each step of the worked rename leaves the old tree up to its commit, and then the new one: by hand.
+#[test]
+fn a_rename_is_cut_off_at_each_step(rt: HostRuntime) -> Result<(), Fail> {
+    for steps in 1..=STEPS {
+        let script = format!(in rt.alloc(); "{RENAME}go 0 {steps}\nstop\ntree\naudit\n")?;
+        let reply = if steps < STEPS { "moved" } else { "done" };
+        let tree = if steps < COMMIT { OLD_TREE } else { NEW_TREE };
+        let want = format!(in rt.alloc(); "{STARTED}{reply}\nstopped\n{tree}audit ok\n")?;
+        check(&rt, script.as_bytes(), Ok(()), want.as_bytes());
+    }
+    Ok(())
+}

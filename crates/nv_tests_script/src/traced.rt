@@ -1,15 +1,11 @@
-//! Scripts that are traced: the first script by hand, and each row, whose text without the lines of events is that of `play`.
+//! Scripts that are traced: the first script and a reader that waits, by hand.
 
-use crate::cleaners::OF_CLEANERS;
 use crate::compare::{same, same_for};
 use crate::playing::next_line;
-use crate::rows::SCRIPTS;
-use crate::snapshots::OF_SNAPSHOTS;
-use crate::stops::OF_STOPS;
-use crate::worked::{PARTIAL_AT_BOTH_ENDS, Row, WORKED};
+use crate::worked::PARTIAL_AT_BOTH_ENDS;
 use nv_base::Fault;
 use nv_refuser::{Tally, refuse};
-use nv_script::trace_and_leave;
+use nv_trace::trace_and_leave;
 use std::alloc::{AllocError, Global};
 use std::process::Abort;
 
@@ -114,23 +110,7 @@ fn traced(alloc: Global, script: &str) -> (Result<(), Fault>, Vec<u8>) {
     (ended, written)
 }
 
-/// The lines that do not begin with two spaces.
-fn without_events(alloc: Global, text: &[u8]) -> Result<Vec<u8>, AllocError> {
-    let mut answers = Vec::new(alloc);
-    let mut rest = text;
-    for _line in 0..text.len() {
-        let Some((line, behind)) = next_line(rest) else {
-            break;
-        };
-        rest = behind;
-        if !line.starts_with(b"  ") {
-            answers.extend_from_slice(line)?;
-            answers.push(b'\n')?;
-        }
-    }
-    Ok(answers)
-}
-
+/// A trace of the first script, worked out by hand.
 #[test]
 fn the_first_script(rt: HostRuntime) {
     let (ended, written) = traced(rt.alloc(), FIRST);
@@ -138,6 +118,7 @@ fn the_first_script(rt: HostRuntime) {
     same(&rt, written.as_slice(), FIRST_TRACED.as_bytes());
 }
 
+/// A trace of a reader that waits, worked out by hand.
 #[test]
 fn a_reader_that_waits(rt: HostRuntime) {
     let (ended, written) = traced(rt.alloc(), WAITING);
@@ -149,31 +130,7 @@ fn a_reader_that_waits(rt: HostRuntime) {
     );
 }
 
-#[test]
-fn without_events_a_trace_is_a_play(rt: HostRuntime) -> Result<(), AllocError> {
-    for rows in [
-        WORKED.as_slice(),
-        &SCRIPTS,
-        OF_SNAPSHOTS,
-        OF_CLEANERS,
-        OF_STOPS,
-    ] {
-        check_all(&rt, rows)?;
-    }
-    Ok(())
-}
-
-/// Without its events each script writes what it does by `play`.
-fn check_all<R: AllocGlobal + Abort>(rt: &R, rows: &[Row]) -> Result<(), AllocError> {
-    for (script, text) in rows {
-        let (ended, written) = traced(rt.alloc(), script);
-        let answers = without_events(rt.alloc(), written.as_slice())?;
-        same_for(rt, script, ended, Ok(()));
-        same_for(rt, script, answers.as_slice(), text.as_bytes());
-    }
-    Ok(())
-}
-
+/// A writer that takes no more ends the trace by `E29` behind a front.
 #[test]
 fn an_output_without_room(rt: HostRuntime) {
     let mut room = [0u8; 15];
@@ -217,6 +174,7 @@ fn ends_behind_an_answer(written: &[u8]) -> bool {
     FIRST_TRACED.as_bytes().starts_with(written) && rest.is_empty() && !is_event
 }
 
+/// Each growth of a trace is refused in turn, and no line is cut in two: a clause lets it end behind any front.
 #[test]
 fn the_first_script_with_one_refused_growth(rt: HostRuntime) -> Result<(), AllocError> {
     let mut tally = Tally::new();

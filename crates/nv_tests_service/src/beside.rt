@@ -102,6 +102,7 @@ const ALONE: &[Words] = &[
     Write(ONE, 0, b"aaaa"),
 ];
 
+/// A write whose text does not come yet keeps no other file waiting: no clause says that two calls run at once.
 #[test]
 fn two_calls_at_once(rt: HostRuntime) {
     let work = Beside {

@@ -2,8 +2,8 @@
 
 use crate::calls::told;
 use crate::compare::{holds_for, same, same_for};
-use crate::reports::{have_same_trees, report_alike};
-use crate::runner::{Work, busy_comes_back, seated, serve};
+use crate::reports::have_same_trees;
+use crate::runner::{Work, seated, serve};
 use crate::words::call;
 use crate::worlds::{SMALL, prepared};
 use Words::{Create, Write};
@@ -109,6 +109,7 @@ const ALONE: &[Words] = &[
     Write(ONE, 2, b"z"),
 ];
 
+/// A service with a session fewer does not close, and goes on: no clause says that what comes back is its own.
 #[test]
 fn a_service_closes_with_all_its_sessions(rt: HostRuntime) {
     let world = prepared(&rt, rt.alloc(), SMALL, &[Create(ROOT, b"a")]);
@@ -117,55 +118,10 @@ fn a_service_closes_with_all_its_sessions(rt: HostRuntime) {
     have_same_trees(&rt, rt.alloc(), &world, &twin);
 }
 
-/// Gives out so many seats, which make no call.
-#[derive(Drop)]
-struct Idle(u64);
-
-impl Work for Idle {
-    fn work<C: Commits + Send + Sync, B: Blocks + Send + Sync, R: Threads + Wait + Abort + Sync>(
-        &mut self,
-        rt: &R,
-        alloc: Global,
-        service: Service<C, B>,
-    ) -> (Service<C, B>, Vec<Session<C, B>>) {
-        let mut service = service;
-        let sessions = match self.0 {
-            0 => Vec::new(alloc),
-            count => seated(rt, alloc, &mut service, count),
-        };
-        (service, sessions)
-    }
-}
-
-#[test]
-fn idle_seats_change_nothing(rt: HostRuntime) {
-    let twin = prepared(&rt, rt.alloc(), SMALL, ALONE);
-    let mut world = prepared(&rt, rt.alloc(), SMALL, ALONE);
-    for count in [0, 1, 2, 64] {
-        world = serve(&rt, rt.alloc(), world, &mut Idle(count));
-        report_alike(&rt, rt.alloc(), &world, &twin);
-    }
-}
-
 /// A world in which an actor has begun a call.
 pub fn busy_world(rt: &impl Abort, alloc: Global) -> World {
     let mut world = prepared(rt, alloc, SMALL, &[Create(ROOT, b"a")]);
     let started = world.step(Event::Start(1, call(rt, alloc, &Write(ONE, 0, b"z"))));
     holds_for(rt, &"started", matches!(started, Reply::Started));
     world
-}
-
-#[test]
-fn no_service_opens_on_a_world_with_a_call(rt: HostRuntime) {
-    let world = busy_world(&rt, rt.alloc());
-    let mut world = busy_comes_back(&rt, rt.alloc(), world);
-    holds_for(&rt, &"ended", world.finish(1).is_ok());
-    let world = serve(&rt, rt.alloc(), world, &mut Idle(1));
-    let twin = prepared(
-        &rt,
-        rt.alloc(),
-        SMALL,
-        &[Create(ROOT, b"a"), Write(ONE, 0, b"z")],
-    );
-    have_same_trees(&rt, rt.alloc(), &world, &twin);
 }

@@ -218,6 +218,7 @@ impl Acts for Overtaking {
 /// How many rounds are overtaken, and what the call is answered.
 const ROUNDS: [(usize, Want); 2] = [(7, Want::Nothing), (8, Want::Refused(Fault::Contended))];
 
+/// A call that is overtaken eight times is contended, and one seven times is not: no clause says so of a session.
 #[test]
 fn eight_overtaken_rounds(rt: HostRuntime) {
     for (rounds, want) in ROUNDS {

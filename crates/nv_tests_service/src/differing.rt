@@ -222,6 +222,7 @@ impl Work for Swapped {
     }
 }
 
+/// A close tells the part that does not fit, and puts all back in its place: no clause says whose parts they are.
 #[test]
 fn parts_out_of_place_do_not_close(rt: HostRuntime) {
     for (before, swap, part) in SWAPS {
@@ -330,6 +331,7 @@ impl Work for Handful {
     }
 }
 
+/// Blocks in a hand make the lists differ: no clause says that of a close.
 #[test]
 fn blocks_in_a_hand_do_not_close(rt: HostRuntime) {
     let world = prepared(&rt, rt.alloc(), SMALL, FILES);

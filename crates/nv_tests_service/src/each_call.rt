@@ -22,34 +22,6 @@ const DIRECTORY: At = (3, 1);
 
 const INNER: At = (4, 1);
 
-/// The worked calls on names, and one more.
-const NAMES: &[Line] = &[
-    (Mkdir(ROOT, b"d"), Want::Made(FIRST)),
-    (Create(FIRST, b"x"), Want::Made(FILE)),
-    (Lookup(ROOT, b"d"), Want::Made(FIRST)),
-    (Rmdir(ROOT, b"d"), Want::Refused(Fault::NotEmpty)),
-    (Unlink(ROOT, b"d"), Want::Refused(Fault::NotFile)),
-    (Rmdir(FIRST, b"x"), Want::Refused(Fault::NotDirectory)),
-    (Create(ROOT, b".."), Want::Refused(Fault::BadName)),
-    (Create(ROOT, b"d"), Want::Refused(Fault::Exists)),
-    (Mkdir(ROOT, b"f"), Want::Made(DIRECTORY)),
-    (
-        Rename(ROOT, b"f", FIRST, b"f"),
-        Want::Refused(Fault::MoveDirectory),
-    ),
-    (Rename(ROOT, b"d", ROOT, b"e"), Want::Nothing),
-    (List(ROOT), Want::Names(&[(b"f", 3), (b"e", 1)])),
-    (Rename(FIRST, b"x", ROOT, b"x"), Want::Nothing),
-    (Rmdir(ROOT, b"e"), Want::Nothing),
-    (Stat(ROOT), Want::Stat(Kind::Dir, 493, 0, 6)),
-    (Lookup(ROOT, b"x"), Want::Made(FILE)),
-];
-
-#[test]
-fn sixteen_calls_in_turn(rt: HostRuntime) {
-    are_as_alone(&rt, rt.alloc(), SMALL, &[], NAMES);
-}
-
 /// The calls that make the worked world of names.
 const BEFORE: &[Words] = &[
     Mkdir(ROOT, b"d"),
@@ -94,6 +66,7 @@ const EACH: &[Line] = &[
     (Auto(2), Want::Cleaned(false, 0, 0)),
 ];
 
+/// Each call of a session is made with the answer that one actor has, and leaves the same world: no clause says so.
 #[test]
 fn each_call_once(rt: HostRuntime) {
     are_as_alone(&rt, rt.alloc(), SMALL, BEFORE, EACH);

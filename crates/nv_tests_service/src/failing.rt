@@ -154,6 +154,7 @@ fn fails_at_each_call<R: Threads + Wait + Abort + Sync>(
     }
 }
 
+/// A text that fails at its k-th part, for each k, refuses the write and changes no file: no clause says so.
 #[test]
 fn a_failing_text_changes_nothing(rt: HostRuntime) {
     let mut tally = Tally::new();

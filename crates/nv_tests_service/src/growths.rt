@@ -13,7 +13,7 @@ use nv_base::Ino;
 use nv_core::World;
 use nv_refuser::{Tally, refuse};
 use nv_scenes::wants_memory;
-use nv_scenes_calls::growths::{CLEANERS, NAMES, NODES, ROOMY, Row, SNAPSHOTS, VISITS};
+use nv_scenes_calls::growths::{NAMES, ROOMY, Row};
 use nv_scenes_calls::words::{Want, Words, is_wanted};
 use nv_service::{Blocks, Commits, Service, Session};
 use std::alloc::Global;
@@ -166,27 +166,8 @@ fn make_all<R: Threads + Wait + Abort + Print + Sync>(
     tally.tell(rt, name);
 }
 
-#[test]
-fn nodes_with_one_refused_growth(rt: HostRuntime) {
-    make_all(&rt, rt.alloc(), "sessions, nodes", NODES);
-}
-
+/// Each growth of a session's calls on names is refused in turn: it holds no lock, and the call is made again.
 #[test]
 fn names_with_one_refused_growth(rt: HostRuntime) {
     make_all(&rt, rt.alloc(), "sessions, names", NAMES);
-}
-
-#[test]
-fn visits_with_one_refused_growth(rt: HostRuntime) {
-    make_all(&rt, rt.alloc(), "sessions, visits", VISITS);
-}
-
-#[test]
-fn calls_on_snapshots_with_one_refused_growth(rt: HostRuntime) {
-    make_all(&rt, rt.alloc(), "sessions, snapshots", SNAPSHOTS);
-}
-
-#[test]
-fn cleaners_with_one_refused_growth(rt: HostRuntime) {
-    make_all(&rt, rt.alloc(), "sessions, cleaners", CLEANERS);
 }

@@ -24,8 +24,6 @@ mod failing;
 #[cfg(test)]
 mod growths;
 #[cfg(test)]
-mod meetings;
-#[cfg(test)]
 mod own_files;
 #[cfg(test)]
 mod refusals;

@@ -98,6 +98,7 @@ fn write_alone(rt: &impl Abort, alloc: Global, world: &mut World) {
     }
 }
 
+/// Two sessions in threads read their own writes back: that calls run beside each other no clause says.
 #[test]
 fn reads_its_own_write(rt: HostRuntime) {
     let world = prepared(&rt, rt.alloc(), ROOMY, MADE);

@@ -1,19 +1,14 @@
 //! Refusals of a session's calls, each where others would come behind it.
 
-use crate::turns::{Line, are_as_alone, are_as_on_twin};
-use crate::worlds::{SMALL, new_world};
+use crate::turns::{Line, are_as_alone};
+use crate::worlds::SMALL;
 use Words::{
     Auto, Create, Fast, List, Lookup, Mkdir, Mode, Read, Rename, Rmdir, Show, Size, Snap, Stat,
     Thorough, Unlink, Write,
 };
-use nv_base::limits::NUMBER;
-use nv_base::{CommitNo, Epoch, Fault};
-use nv_book::Book;
-use nv_core::{Parts, World};
+use nv_base::Fault;
 use nv_scenes::Row;
 use nv_scenes_calls::words::{At, Want, Words};
-use std::alloc::Global;
-use std::process::Abort;
 
 const ROOT: At = (0, 1);
 
@@ -93,11 +88,6 @@ const ONE_NODE: &[Line] = &[
     (Rmdir(ROOT, b"d"), Want::Refused(Fault::NotEmpty)),
 ];
 
-#[test]
-fn refusals_of_one_node(rt: HostRuntime) {
-    are_as_alone(&rt, rt.alloc(), SMALL, MADE, ONE_NODE);
-}
-
 /// Renames: what is wrong with the first name comes before what is wrong with the second.
 const RENAMES: &[Line] = &[
     (
@@ -135,11 +125,6 @@ const RENAMES: &[Line] = &[
     (Rename(DIRECTORY, b"i", EMPTY, b"i"), Want::Nothing),
 ];
 
-#[test]
-fn refusals_of_renames(rt: HostRuntime) {
-    are_as_alone(&rt, rt.alloc(), SMALL, MADE, RENAMES);
-}
-
 /// Calls on snapshots, of which four may live, and cleaners.
 const SNAPSHOTS: &[Line] = &[
     (Words::Drop(1), Want::Refused(Fault::NoSnapshot)),
@@ -157,11 +142,6 @@ const SNAPSHOTS: &[Line] = &[
     (Thorough(99), Want::Refused(Fault::Stale)),
     (Auto(u64::MAX), Want::Refused(Fault::Stale)),
 ];
-
-#[test]
-fn refusals_of_calls_on_snapshots(rt: HostRuntime) {
-    are_as_alone(&rt, rt.alloc(), SMALL, MADE, SNAPSHOTS);
-}
 
 /// Two inodes, and eight blocks of one byte, two of which are pages of logs. A page has two entries.
 const TINY: Row = [8, 1, 1, 2, 2, 1, 1];
@@ -184,46 +164,20 @@ const FULL: &[Line] = &[
     (Read(FILE, 0, 9), Want::Bytes(b"abcdef")),
 ];
 
-#[test]
-fn refusals_of_a_full_device(rt: HostRuntime) {
-    are_as_alone(&rt, rt.alloc(), TINY, &[], FULL);
-}
+/// Calls of one session, behind others on a device.
+type Turns = (Row, &'static [Words], &'static [Line]);
 
-/// A new world one commit and one epoch before the last.
-fn late_world(rt: &impl Abort, alloc: Global) -> World {
-    let Ok(parts) = new_world(rt, alloc, SMALL).into_parts() else {
-        panic!(rt; "a world at rest");
-    };
-    let (geometry, cells, lists, pool, _) = parts.into_fields();
-    let (epoch, commit) = (Epoch::new(NUMBER - 1), CommitNo::new(NUMBER - 1));
-    let book = Book::starting_at(alloc, &geometry, epoch, commit).expect(rt, "memory for a book");
-    let parts = Parts {
-        geometry,
-        cells,
-        lists,
-        pool,
-        book,
-    };
-    match World::from_parts(alloc, parts) {
-        Ok(world) => world,
-        Err((fault, _)) => panic!(rt; "no world: {fault}"),
-    }
-}
-
-const LAST: &[Line] = &[
-    (Create(ROOT, b"a"), Want::Made(FILE)),
-    (Create(ROOT, b"a"), Want::Refused(Fault::Exists)),
-    (Create(ROOT, b"b"), Want::Refused(Fault::CommitLimit)),
-    (Write(FILE, 0, b"a"), Want::Refused(Fault::CommitLimit)),
-    (Write(FILE, 0, b""), Want::Count(0)),
-    (Mode(ROOT, 7), Want::Refused(Fault::CommitLimit)),
-    (Snap, Want::Snapshot(NUMBER - 1)),
-    (Snap, Want::Refused(Fault::EpochLimit)),
-    (Words::Drop(NUMBER - 1), Want::Nothing),
+const TURNS: &[Turns] = &[
+    (SMALL, MADE, ONE_NODE),
+    (SMALL, MADE, RENAMES),
+    (SMALL, MADE, SNAPSHOTS),
+    (TINY, &[], FULL),
 ];
 
+/// The refusals of a session are those of one actor, and have their causes: no clause says so.
 #[test]
-fn refusals_behind_the_last_commit_and_epoch(rt: HostRuntime) {
-    let twin = late_world(&rt, rt.alloc());
-    are_as_on_twin(&rt, rt.alloc(), late_world(&rt, rt.alloc()), twin, LAST);
+fn refusals_are_those_of_one_actor(rt: HostRuntime) {
+    for (row, before, lines) in TURNS {
+        are_as_alone(&rt, rt.alloc(), *row, before, lines);
+    }
 }

@@ -4,8 +4,7 @@ ghost use Rattle.std.specs.Prelude.{◌≡◌, length};
 ghost use Rattle.nv_service.specs.Names.{AreBlockNames, AreCommitNames, AreSnapshotNames, block_parts};
 ghost use Rattle.nv_service.specs.Opened.{versions_in};
 
-use crate::compare::{refused_memory, same};
-use nv_base::Fault;
+use crate::compare::refused_memory;
 use nv_core::World;
 use nv_service::{Blocks, Commits, Ledgers, Service, Session};
 use std::alloc::Global;
@@ -133,36 +132,6 @@ pub fn seated<C: Commits, B: Blocks>(
                 Ok(sessions) => sessions,
                 Err(fault) => panic!(rt; "no sessions: {fault}"),
             }
-        }
-    }
-}
-
-/// No service opens on a world in which an actor has a call: it comes back.
-pub fn busy_comes_back(rt: &impl Abort, alloc: Global, world: World) -> World {
-    let ledgers = new_ledgers(rt, alloc, &world);
-    refused_as_busy::<Brand, Brand>(rt, alloc, world, ledgers)
-}
-
-fn refused_as_busy<C: Commits, B: Blocks>(
-    rt: &impl Abort,
-    alloc: Global,
-    world: World,
-    ledgers: Ledgers,
-) -> World
-    requires commits { AreCommitNames ledgers C.name C.parts C.whole C.table }
-    requires snapshots { AreSnapshotNames ledgers C.snap_name C.snap_parts }
-    requires blocks { AreBlockNames ledgers B.name B.parts B.whole B.placed
-        world.shared.geometry.numbers }
-    requires stood { (C.commit ≡ world.shared.book.state.commit)
-        × (C.epoch ≡ world.shared.book.state.snaps.epoch)
-        × (C.living ≡ length world.shared.book.state.snaps.living)
-        × (C.opened ≡ versions_in world.shared.cells.items) }
-{
-    match Service::<C, B>::open(alloc, world, ledgers) {
-        Ok(_) => panic!(rt; "a service on a busy world"),
-        Err((fault, world, _)) => {
-            same(rt, fault, Fault::ActorBusy);
-            world
         }
     }
 }

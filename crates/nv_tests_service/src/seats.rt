@@ -92,6 +92,7 @@ fn has_history(rt: &impl Abort, world: World, want: &[Event]) {
     }
 }
 
+/// The history names the seat of each session: no clause says so.
 #[test]
 fn the_history_has_the_seats(rt: HostRuntime) {
     let world = prepared(&rt, rt.alloc(), SMALL, BEFORE);

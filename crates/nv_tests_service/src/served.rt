@@ -50,6 +50,7 @@ fn back(rt: &impl Abort, served: Result<World, (Fault, Option<World>)>, want: Fa
     }
 }
 
+/// Each session of a `serve` acts once, and a fault is told where one ended by it: no clause says so.
 #[test]
 fn a_session_ends_by_a_fault(rt: HostRuntime) {
     let alloc = rt.alloc();
@@ -68,6 +69,7 @@ fn a_session_ends_by_a_fault(rt: HostRuntime) {
     have_same_trees(&rt, alloc, &world, &twin);
 }
 
+/// Where no session begins, none acts, and the world comes back: no clause says so.
 #[test]
 fn no_session_begins(rt: HostRuntime) {
     let alloc = rt.alloc();

@@ -2,13 +2,13 @@
 
 use crate::calls::told;
 use crate::compare::{holds_for, same_for};
-use crate::reports::{have_same_trees, report_alike};
+use crate::reports::have_same_trees;
 use crate::threads::{Acts, serve_in_threads};
 use crate::turns::Line;
 use crate::words::call;
 use crate::worlds::{SMALL, prepared};
 use Words::{Create, Mkdir, Show, Snap, Unlink, Write};
-use nv_base::{Epoch, Fault, Ino};
+use nv_base::Fault;
 use nv_scenes_calls::sources::{TURNS, came};
 use nv_scenes_calls::words::{At, Want, Words, is_wanted};
 use nv_service::{Blocks, Commits, Service, Session};
@@ -132,92 +132,11 @@ const ALONE: &[Words] = &[
     Words::Drop(1),
 ];
 
+/// Each show has the tree of the making while others write and drop: no clause says that each cell of it is whole.
 #[test]
 fn show_against_drop(rt: HostRuntime) {
     let world = prepared(&rt, rt.alloc(), SMALL, MADE);
     let world = serve_in_threads(&rt, rt.alloc(), world, 3, &Shows);
     let twin = prepared(&rt, rt.alloc(), SMALL, ALONE);
     have_same_trees(&rt, rt.alloc(), &world, &twin);
-}
-
-/// A session shows the snapshot while the root's lock is held, so that the other finds it pinned.
-#[derive(Drop)]
-struct Pinned {
-    held: AtomicBool,
-}
-
-impl Pinned {
-    /// Shows the snapshot, once the root is held.
-    fn shows_slowly<C: Commits, B: Blocks, R: Wait + Abort>(
-        &self,
-        rt: &R,
-        alloc: Global,
-        service: &Service<C, B>,
-        session: &mut Session<C, B>,
-    ) {
-        holds_for(rt, &"held", came(&self.held));
-        let told = told(rt, service, session, call(rt, alloc, &Show(1)));
-        holds_for(rt, &"shown", is_wanted(&told, &SHOWN));
-    }
-
-    /// Holds the root until the snapshot is pinned and was not dropped.
-    fn finds_it_pinned<C: Commits, B: Blocks, R: Wait + Abort>(
-        &self,
-        rt: &R,
-        alloc: Global,
-        service: &Service<C, B>,
-        session: &mut Session<C, B>,
-    ) {
-        let root = service.inode_lock(Ino::new(0)).expect(rt, "a root");
-        let guard = root.write(rt);
-        self.held.store(true, Ordering::SeqCst);
-        holds_for(rt, &"pinned", is_pinned(rt, service));
-        holds_for(rt, &"dropped", !is_dropped(rt, alloc, service, session));
-        drop(guard);
-    }
-}
-
-/// Whether another session pins the snapshot before the turns are used up.
-fn is_pinned<C: Commits, B: Blocks, R: Wait>(rt: &R, service: &Service<C, B>) -> bool {
-    for _turn in 0..TURNS {
-        let pins = service
-            .book_lock()
-            .lock(rt)
-            .part()
-            .snaps()
-            .pins(Epoch::new(1));
-        if pins == Some(1) {
-            return true;
-        }
-        thread::yield_now();
-    }
-    false
-}
-
-impl Acts for Pinned {
-    fn act<C: Commits, B: Blocks, R: Wait + Abort>(
-        &self,
-        rt: &R,
-        alloc: Global,
-        service: &Service<C, B>,
-        session: &mut Session<C, B>,
-        place: usize,
-    ) {
-        if place == 0 {
-            self.shows_slowly(rt, alloc, service, session);
-        } else {
-            self.finds_it_pinned(rt, alloc, service, session);
-        }
-    }
-}
-
-#[test]
-fn a_snapshot_that_is_shown_is_pinned(rt: HostRuntime) {
-    let work = Pinned {
-        held: AtomicBool::new(false),
-    };
-    let world = prepared(&rt, rt.alloc(), SMALL, MADE);
-    let world = serve_in_threads(&rt, rt.alloc(), world, 2, &work);
-    let twin = prepared(&rt, rt.alloc(), SMALL, MADE);
-    report_alike(&rt, rt.alloc(), &world, &twin);
 }

@@ -68,19 +68,10 @@ pub fn are_as_alone<R: Threads + Wait + Abort + Sync>(
     before: &[Words],
     lines: &[Line],
 ) {
-    let twin = prepared(rt, alloc, row, before);
-    are_as_on_twin(rt, alloc, prepared(rt, alloc, row, before), twin, lines);
-}
-
-/// The same on a world that has a twin.
-pub fn are_as_on_twin<R: Threads + Wait + Abort + Sync>(
-    rt: &R,
-    alloc: Global,
-    world: World,
-    twin: World,
-    lines: &[Line],
-) {
-    let mut work = InTurn { lines, twin };
-    let world = serve(rt, alloc, world, &mut work);
+    let mut work = InTurn {
+        lines,
+        twin: prepared(rt, alloc, row, before),
+    };
+    let world = serve(rt, alloc, prepared(rt, alloc, row, before), &mut work);
     report_alike(rt, alloc, &world, &work.twin);
 }

@@ -53,6 +53,7 @@ fn count_of(text: &[u8], wanted: &[u8]) -> u64 {
 /// How many calls of a thread are done beside so many cleaners: all that have room, where nothing is cleaned, and else more.
 const CROWDS: [(u64, bool); 3] = [(0, false), (1, true), (4, true)];
 
+/// Cleaners beside threads make room for their calls: no clause says when a cleaner runs.
 #[test]
 fn cleaners_make_room(rt: HostRuntime) -> Result<(), AllocError> {
     let script = script(rt.alloc())?;

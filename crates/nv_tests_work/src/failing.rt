@@ -133,6 +133,7 @@ const WRITES: [(u64, &[u8]); 4] = [
     (4, b"formatted\ndone 1.1\ndone 2.1\n"),
 ];
 
+/// A read that fails ends the script behind the answers of the lines before: a clause lets it be any front.
 #[test]
 fn a_failed_read_ends_the_script(rt: HostRuntime) {
     for (read, want) in READS {
@@ -145,6 +146,7 @@ fn a_failed_read_ends_the_script(rt: HostRuntime) {
     holds_for(&rt, &"no twelfth read", text.as_slice() == IN_THREADS);
 }
 
+/// A write that fails ends the script behind what was written before: a clause lets it be any front.
 #[test]
 fn a_failed_write_ends_the_script(rt: HostRuntime) {
     for failure in [Failure::Refused, Failure::TakesNone] {

@@ -154,6 +154,7 @@ const BUSY: &[Row] = &[
     ),
 ];
 
+/// Scripts that no threads play end by the fault and behind the text that were worked out by hand.
 #[test]
 fn scripts_that_no_threads_play(rt: HostRuntime) {
     for rows in [NO_FORK, BEFORE, BEHIND, BUSY] {

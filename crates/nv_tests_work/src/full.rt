@@ -123,6 +123,7 @@ fn reports_of(
     Ok(reports)
 }
 
+/// Eight threads and four cleaners on a full device lose no call: no clause speaks of what a thread's calls leave.
 #[test]
 fn eight_threads_on_a_full_device(rt: HostRuntime) -> Result<(), AllocError> {
     let alloc = rt.alloc();

@@ -29,6 +29,7 @@ impl Gate for Holding {
     }
 }
 
+/// Either thread is answered while the other is held: no clause says that threads make their calls beside each other.
 #[test]
 fn both_threads_play(rt: HostRuntime) {
     for thread in 0..2 {

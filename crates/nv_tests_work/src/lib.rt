@@ -16,8 +16,6 @@ mod full;
 #[cfg(test)]
 mod gates;
 #[cfg(test)]
-mod growths;
-#[cfg(test)]
 mod played;
 #[cfg(test)]
 mod writers;

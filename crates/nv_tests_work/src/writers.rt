@@ -69,6 +69,7 @@ const CROWDS: [(u64, u64, &[u8]); 9] = [
     (1, 4, IN_ONE),
 ];
 
+/// The script of two writers has the text that was worked out by hand, in any number of threads and cleaners.
 #[test]
 fn script_of_two_writers(rt: HostRuntime) {
     for (threads, cleaners, want) in CROWDS {
@@ -131,6 +132,7 @@ snaps 0 epoch 1 commit 8
 audit ok
 ";
 
+/// An actor that is not there is refused in its place: worked out by hand.
 #[test]
 fn an_actor_that_is_not_there_is_refused_in_its_place(rt: HostRuntime) {
     for (script, name) in [(ONE_LINE_MORE, "one line more"), (NO_ACTOR, "comments")] {

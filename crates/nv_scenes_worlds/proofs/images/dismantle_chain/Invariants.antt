@@ -1,5 +1,0 @@
-use Rattle.std.proofs.Common.{vec_len}
-use Rattle.nv_scenes_worlds.proofs.images.dismantle_chain.Given as goal
-
-abbrev pub decreases-loop-page : goal.decreases-loop-page
-decreases-loop-page l = vec_len l.pages

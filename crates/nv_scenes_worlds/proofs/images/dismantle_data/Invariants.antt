@@ -1,5 +1,0 @@
-use Rattle.std.proofs.Common.{vec_len}
-use Rattle.nv_scenes_worlds.proofs.images.dismantle_data.Given as goal
-
-abbrev pub decreases-loop-place : goal.decreases-loop-place
-decreases-loop-place l = vec_len l.places

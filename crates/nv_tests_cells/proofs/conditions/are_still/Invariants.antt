@@ -1,7 +1,0 @@
-use Rattle.std.proofs.Common.{ℕ, ◌<◌}
-use Rattle.nv_calls.specs.Cells.{state_at}
-use Rattle.nv_calls.specs.Prepared.{IsStill}
-use Rattle.nv_tests_cells.proofs.conditions.are_still.Given as goal
-
-abbrev pub invariant-loop-k : goal.invariant-loop-k
-invariant-loop-k g l = (i : ℕ) → i < l.k → IsStill l.block (state_at (g.C.Cells.cells l.cells) i)
