@@ -47,6 +47,8 @@ class Function:
     comment: str
     clauses: list
     start: int
+    # Where its body begins.
+    body: int
     end: int
     is_law: bool
     is_test: bool
@@ -102,7 +104,8 @@ class Held:
 
 @dataclasses.dataclass
 class Edit:
-    """A wrong body: where it lies, the file of its crate that it changes, its old texts, and what it says that it breaks."""
+    """A wrong body: where it lies, the file of its crate that it changes, its old texts, what it says that it breaks, and whether the gate
+    tries it."""
 
     crate: str
     path: str
@@ -266,6 +269,7 @@ class Code:
             comment=self.comment_above(line),
             clauses=clauses,
             start=place,
+            body=tokens[here][1],
             end=tokens[last][1],
             is_law=bool(clauses) and self._is_of_nothing(at + 2),
             is_test=bool(attributes and "#[test" in attributes[1]),
@@ -405,18 +409,34 @@ def codes(crate):
     return [Code(it) for it in files(crate, "src", ".rt")]
 
 
+@dataclasses.dataclass
+class Row:
+    """A row of wrong-bodies/gate.tsv: an edit that the gate tries, its crate, the functions that refuse it, and the bug of the list."""
+
+    edit: str
+    crate: str
+    functions: list
+    bug: str
+
+
+def gate_rows():
+    """The wrong bodies that the gate tries, in the order of the table."""
+    lines = (ROOT / "wrong-bodies" / "gate.tsv").read_text(encoding="utf-8").splitlines()
+    lines = [it.split("\t") for it in lines if it.strip() and not it.startswith("#")]
+    return [Row(edit, crate, functions.split(), bug[0] if bug else "") for edit, crate, functions, *bug in lines[1:]]
+
+
 def edits(crate):
-    """The wrong bodies of a crate: those in the gate, then those outside it."""
-    found = []
-    for folder, in_gate in ((ROOT / "crates" / crate / "must-fail", True), (ROOT / "wrong-bodies" / crate, False)):
-        for path in sorted(folder.glob("*.edit")):
-            text = path.read_text(encoding="utf-8")
-            files_ = re.findall(r"^file: *(\S+)", text, re.M)
-            said = re.findall(r"^(?:# )?promise: *(.+?) *$", text, re.M)
-            found.append(
-                Edit(crate, relative(path), files_[0] if files_ else "", re.findall(r"^old: (.*)$", text, re.M), said, in_gate)
-            )
-    return found
+    """The wrong bodies of a crate: those that the gate tries, then the others."""
+    found, in_gate = [], {it.edit for it in gate_rows() if it.crate == crate}
+    for path in sorted((ROOT / "wrong-bodies" / crate).glob("*.edit")):
+        text = path.read_text(encoding="utf-8")
+        files_ = re.findall(r"^file: *(\S+)", text, re.M)
+        said = re.findall(r"^(?:# )?promise: *(.+?) *$", text, re.M)
+        found.append(
+            Edit(crate, relative(path), files_[0] if files_ else "", re.findall(r"^old: (.*)$", text, re.M), said, path.stem in in_gate)
+        )
+    return sorted(found, key=lambda it: not it.in_gate)
 
 
 def run(main):

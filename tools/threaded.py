@@ -15,17 +15,17 @@ CRATE = "nv_threaded"
 LIBRARIES = "nv_base nv_calls nv_core nv_service nv_script anyhow"
 # Functions that run under a lock from their beginning to their end, by their paths. They are built apart from those that call them.
 HELD = {
-    "commit lock": ["nv_service::commit::commit_over", "nv_service::book::LockedBook::drop_snapshot"],
+    "commit lock": ["nv_sessions::commit::commit_over", "nv_sessions::book::LockedBook::drop_snapshot"],
     "files' locks": [
-        "nv_service::guards::change_taken",
-        "nv_service::held::take_out",
-        "nv_service::held::put_back",
-        "nv_service::cleaners::clean_log",
+        "nv_sessions::guards::change_taken",
+        "nv_sessions::held::take_out",
+        "nv_sessions::held::put_back",
+        "nv_sessions::cleaners::clean_log",
         "nv_calls::view::read_on",
-        "nv_service::session::Session::see",
+        "nv_sessions::session::Session::see",
     ],
-    "lists' locks": ["nv_service::asking::Asking::take_from", "nv_service::giving_back::Giving::give_blocks"],
-    "pool's lock": ["nv_alloc::inode_pool::InodePool::take", "nv_service::giving_back::Giving::put_back"],
+    "lists' locks": ["nv_sessions::asking::Asking::take_from", "nv_sessions::giving_back::Giving::give_blocks"],
+    "pool's lock": ["nv_alloc::inode_pool::InodePool::take", "nv_sessions::giving_back::Giving::put_back"],
 }
 
 
