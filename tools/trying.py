@@ -275,7 +275,8 @@ def told_of(function, it, said):
     wrong = [text for file, text in said.entries() if file.startswith("proofs/") and is_of(file, function, it)]
     wrong = [text.removeprefix("error: ") for text in wrong if not RESTS.search(text.split("\n")[0])]
     named = [text for text in wrong if NAMES.search(text)]
-    left = [*said.unanswered(it.spans[function])] if function in it.spans else re.findall(r"`search` did not prove `([^`]+)`", verdict)
+    left = [*said.unanswered(it.spans[function])] if function in it.spans else []
+    left = left or re.findall(r"`search` did not prove `([^`]+)`", verdict)
     left = [f"{goal}{said.meaning(goal, function)}" for goal in left if not is_renamed(goal, named)]
     if opened := [*left, *(text for text in wrong if text not in named)]:
         return Told(REFUSED, function, shortened(opened[0]))
